@@ -1,0 +1,5 @@
+pub mod Every
+pub mod GoodTrees
+pub mod Grafts
+pub mod TreeInduction
+pub mod TreeSteps

@@ -1,0 +1,15 @@
+//! What everything stands on: lists, numbers of names, proof trees, and the trait of a logic.
+#![tactic(auto)]
+
+mod list;
+mod logic;
+mod memory;
+mod sym;
+mod tree;
+mod waiting;
+
+pub use list::{List, Text, item_at};
+pub use logic::{Logic, StepErr, Why, copy_tree};
+pub use memory::NoMemory;
+pub use sym::Sym;
+pub use tree::{JustId, Tree, count, graft, leaf_count, root};
