@@ -1,0 +1,63 @@
+ghost use Rattle.std.specs.Prelude.{◌≡◌, ◌≤◌, ℕ, min};
+ghost use Rattle.mp_logic.specs.Trees.{counted};
+ghost use Rattle.mp_term.specs.Terms.{size_of, depth_of, in_scope_of};
+
+use crate::Term;
+
+/// The number of variables and operators.
+pub fn size(t: &Term) -> u64
+    ensures { result ≡ counted (size_of t.now) }
+{
+    match t {
+        Term::Var(_) => 1,
+        Term::Op { subs, .. } => {
+            let mut total = 1u64;
+            for sub in subs.as_slice() {
+                total = total.saturating_add(size(&sub.body));
+            }
+            total
+        }
+    }
+}
+
+pub fn depth(t: &Term) -> u64
+    ensures { result ≡ counted (depth_of t.now) }
+{
+    match t {
+        Term::Var(_) => 1,
+        Term::Op { subs, .. } => {
+            let mut greatest = 0u64;
+            for sub in subs.as_slice() {
+                greatest = greatest.max(depth(&sub.body));
+            }
+            greatest.saturating_add(1)
+        }
+    }
+}
+
+/// Whether each free variable is below `scope`.
+pub fn in_scope(t: &Term, scope: u32) -> bool
+    ensures { result ≡ in_scope_of t.now scope }
+{
+    in_wide_scope(t, scope as u64)
+}
+
+const WIDEST: u64 = 4294967296;
+
+// A scope from WIDEST on holds every variable that can be written, so it may stand at WIDEST.
+fn in_wide_scope(t: &Term, scope: u64) -> bool
+    ensures { (n : ℕ) → min n WIDEST ≡ scope → result ≡ in_scope_of t.now n }
+{
+    match t {
+        Term::Var(level) => (*level as u64) < scope,
+        Term::Op { subs, .. } => {
+            for sub in subs.as_slice() {
+                let inner = scope.saturating_add(sub.binders as u64).min(WIDEST);
+                if !in_wide_scope(&sub.body, inner) {
+                    return false;
+                }
+            }
+            true
+        }
+    }
+}
