@@ -1,6 +1,7 @@
 ghost use Rattle.std.specs.Prelude.{◌≡◌, ◌≤◌, ℕ, min};
 ghost use Rattle.mp_logic.specs.Trees.{counted};
 ghost use Rattle.mp_term.specs.Terms.{size_of, depth_of, in_scope_of};
+ghost use Rattle.mp_term.specs.Limits.{few_binders_of};
 
 use crate::Term;
 
@@ -42,10 +43,10 @@ pub fn in_scope(t: &Term, scope: u32) -> bool
     in_wide_scope(t, scope as u64)
 }
 
-const WIDEST: u64 = 4294967296;
+pub(crate) const WIDEST: u64 = 4294967296;
 
 // A scope from WIDEST on holds every variable that can be written, so it may stand at WIDEST.
-fn in_wide_scope(t: &Term, scope: u64) -> bool
+pub(crate) fn in_wide_scope(t: &Term, scope: u64) -> bool
     ensures { (n : ℕ) → min n WIDEST ≡ scope → result ≡ in_scope_of t.now n }
 {
     match t {
@@ -54,6 +55,23 @@ fn in_wide_scope(t: &Term, scope: u64) -> bool
             for sub in subs.as_slice() {
                 let inner = scope.saturating_add(sub.binders as u64).min(WIDEST);
                 if !in_wide_scope(&sub.body, inner) {
+                    return false;
+                }
+            }
+            true
+        }
+    }
+}
+
+/// Whether each subterm, however deep, has at most 8 binders.
+pub fn few_binders(t: &Term) -> bool
+    ensures { result ≡ few_binders_of t.now }
+{
+    match t {
+        Term::Var(_) => true,
+        Term::Op { subs, .. } => {
+            for sub in subs.as_slice() {
+                if sub.binders > 8 || !few_binders(&sub.body) {
                     return false;
                 }
             }
