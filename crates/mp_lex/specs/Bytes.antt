@@ -36,3 +36,7 @@ is_opening b = nat_eq b 40 || nat_eq b 91 || nat_eq b 123
 -- `)`, `]` or `}`
 abbrev pub is_closing : ℕ → Bool
 is_closing b = nat_eq b 41 || nat_eq b 93 || nat_eq b 125
+
+-- a mark by itself that no longer mark begins with: a bracket, `&`, `,`, `;`, `.`, `@` or the bar
+abbrev pub is_single_mark : ℕ → Bool
+is_single_mark b = is_opening b || is_closing b || nat_eq b 38 || nat_eq b 44 || nat_eq b 59 || nat_eq b 46 || nat_eq b 64 || nat_eq b 124

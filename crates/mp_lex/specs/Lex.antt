@@ -1,6 +1,6 @@
 -- The tokens of a text, or its first lexical fault.
-use Rattle.std.specs.Prelude.{◌≡◌, ℕ, zero, suc, ◌+◌, ◌-◌, ◌++◌, List, [], ◌∷◌, take, drop, codes, Result, Ok, Err, Bool, true, false, nat_le, nat_eq, ◌&&◌, if◌then◌else◌}
-use Rattle.std.specs.List.{list_any, prefix_len, starts_with}
+use Rattle.std.specs.Prelude.{◌≡◌, ℕ, zero, suc, ◌+◌, ◌-◌, ◌++◌, ◌<◌, ◌≤◌, List, [], ◌∷◌, take, drop, codes, Result, Ok, Err, Bool, true, false, nat_le, nat_eq, ◌&&◌, if◌then◌else◌}
+use Rattle.std.specs.List.{prefix_len, starts_with}
 use Rattle.mp_lex.specs.declared.token.Kind.{Kind}
 use Rattle.mp_lex.specs.declared.token.Kind.TheVariants.{Small, Cap, SmallVar, CapVar, Num, Str, Mark}
 use Rattle.mp_lex.specs.declared.token.Token.{Token}
@@ -10,7 +10,7 @@ use Rattle.mp_lex.specs.declared.token.LexFail.{LexFail}
 use Rattle.mp_lex.specs.declared.token.LexFail.TheVariants as fail
 use Rattle.mp_lex.specs.declared.front.Front.{Front}
 use Rattle.mp_lex.specs.declared.front.Front.TheVariants as front
-use Rattle.mp_lex.specs.Bytes.{is_small, is_cap, is_digit, is_word, is_blank, is_comment, is_opening, is_closing}
+use Rattle.mp_lex.specs.Bytes.{is_small, is_cap, is_digit, is_word, is_blank, is_comment, is_opening, is_closing, is_single_mark}
 use Rattle.mp_lex.specs.Forms.{is_text}
 
 -- a token of this kind where the bytes that go together are a text of the kind, and else the fault
@@ -37,20 +37,19 @@ mark_len (b ∷ bs) =
     else if nat_eq b 60 then (if starts_with nat_eq bs (codes "->") then 3 else 1)
     else if nat_eq b 61 then (if starts_with nat_eq bs (codes "=>") then 3 else 0)
     else if nat_eq b 45 then (if starts_with nat_eq bs (codes "->") then 3 else 0)
-    else (if list_any (λ c. nat_eq b c) (codes "{}[]()&,;.@|") then 1 else 0)
+    else (if is_single_mark b then 1 else 0)
 
 abbrev pub mark_of : ℕ → Front
 mark_of zero = front.Bad 0 BadByte
 mark_of (suc n) = front.Token Mark (suc n)
 
--- a line ends at a newline or with the text
-abbrev pub ends_line : List ℕ → Bool
-ends_line [] = true
-ends_line (b ∷ bs) = nat_eq b 10
+-- a comment goes on to the end of its line or of the text; what is behind the bytes that it may have decides
+abbrev pub ended_comment : ℕ → List ℕ → Front
+ended_comment n [] = front.Passed n
+ended_comment n (b ∷ bs) = if nat_eq b 10 then front.Passed (n + 1) else front.Bad n BadByte
 
--- a comment goes on to the end of its line, with the bytes that it may have
 abbrev pub comment_of : List ℕ → Front
-comment_of bytes = let n = prefix_len is_comment bytes in if ends_line (drop n bytes) then front.Passed (1 + n) else front.Bad (1 + n) BadByte
+comment_of bytes = let n = prefix_len is_comment bytes in ended_comment (1 + n) (drop n bytes)
 
 -- `'` with the letters, digits and `_` behind it
 abbrev pub variable_of : List ℕ → List ℕ → Front
@@ -72,6 +71,12 @@ front_of (b ∷ bs) =
     else if nat_eq b 34 then checked Str BadString (1 + string_len false bs) (b ∷ bs)
     else if nat_eq b 45 && begins_with is_digit bs then checked Num BadNumber (1 + prefix_len is_digit bs) (b ∷ bs)
     else mark_of (mark_len (b ∷ bs))
+
+-- what is found takes a byte at least, and no more than so many
+abbrev pub IsWithin : ℕ → Front → Type 0
+IsWithin most (front.Passed len) = (0 < len) × (len ≤ most)
+IsWithin most (front.Token kind len) = (0 < len) × (len ≤ most)
+IsWithin most (front.Bad ahead why) = ahead ≤ most
 
 -- the tokens, or the place of the first fault and what it is
 abbrev pub Reading : Type 0

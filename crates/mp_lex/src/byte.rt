@@ -1,5 +1,5 @@
 ghost use Rattle.std.specs.Prelude.{◌≡◌};
-ghost use Rattle.mp_lex.specs.Bytes.{is_small, is_cap, is_digit, is_word, is_blank, is_printed, is_comment, is_opening, is_closing};
+ghost use Rattle.mp_lex.specs.Bytes.{is_small, is_cap, is_digit, is_word, is_blank, is_printed, is_comment, is_opening, is_closing, is_single_mark};
 
 /// Whether it is a letter a to z.
 pub(crate) fn small(b: u8) -> bool
@@ -62,4 +62,18 @@ pub(crate) fn closing(b: u8) -> bool
     ensures { result ≡ is_closing b }
 {
     b == b')' || b == b']' || b == b'}'
+}
+
+/// Whether it is a mark by itself that no longer mark begins with.
+pub(crate) fn single_mark(b: u8) -> bool
+    ensures { result ≡ is_single_mark b }
+{
+    opening(b)
+        || closing(b)
+        || b == b'&'
+        || b == b','
+        || b == b';'
+        || b == b'.'
+        || b == b'@'
+        || b == b'|'
 }

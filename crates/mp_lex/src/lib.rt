@@ -3,6 +3,8 @@
 
 mod byte;
 mod front;
+mod lexer;
 mod token;
 
+pub use lexer::tokens;
 pub use token::{Kind, LexFail, LexWhy, Token};
