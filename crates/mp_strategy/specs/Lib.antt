@@ -1,0 +1,4 @@
+pub mod Evaluation
+pub mod Fits
+pub mod Strategies
+pub mod Works
