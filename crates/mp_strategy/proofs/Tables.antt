@@ -1,5 +1,5 @@
 -- A table of strategies, entry by entry.
-use Rattle.std.proofs.Common.{◌≡◌, ℕ, zero, suc, ◌+◌, ◌-◌, ◌<◌, ◌≤◌, ◌⊎◌, inl, inr, Bool, true, false, ◌&&◌, List, [], ◌∷◌, map, length, get_or, set, drop, replicate, slice_index, nat_lt, nat_le, refl, sym, ap, subst, ◌∙◌, drop-cons, add-one, length-drop, arith}
+use Rattle.std.proofs.Common.{◌≡◌, ℕ, zero, suc, ◌+◌, ◌-◌, ◌<◌, ◌≤◌, ◌⊎◌, inl, inr, true, false, ◌&&◌, List, [], ◌∷◌, map, length, get_or, set, drop, replicate, slice_index, nat_lt, nat_le, refl, sym, ap, subst, ◌∙◌, drop-cons, length-drop, arith}
 use Rattle.std.proofs.lemmas.Bool.{and_parts, and_from, and_left, and_right, ltb-true, le-leb, lt-leb, lt-ltb, cases_eq}
 use Rattle.std.proofs.lemmas.List.{get_or-set_other, length-replicate, length-set}
 use Rattle.std.proofs.lemmas.Grind.{common_steps, get_or-set_at}
@@ -94,7 +94,7 @@ found_start entries n m e le =
 
 known : (found behind : List ℕ) (i depth k : ℕ) → i < length found → ((k : ℕ) → i + 1 ≤ k → slice_index found k ≡ slice_index behind (k - (i + 1))) → i ≤ k
     → (k ≡ i) ⊎ (k ≡ i → ⊥) → slice_index (set found i depth) k ≡ slice_index (depth ∷ behind) (k - i)
-known found behind i depth k lt knows le (inl e) = 
+known found behind i depth k lt knows le (inl e) =
     let z : k - i ≡ 0 = omega (arith, e) in
     get_or-set_at found i k depth 0 e lt ∙ sym (ap (slice_index (depth ∷ behind)) z)
 known found behind i depth k lt knows le (inr ne) =
@@ -127,9 +127,9 @@ too_deep entries i depth t d found f h lt is is_depth gt =
     let all : depths i (drop i entries) ≡ depth ∷ rest = depths_here entries i depth t d found f h lt is is_depth in
     let e : 0 + i ≡ i = omega arith in
     deep_later entries 0 i (ap (λ n. list_all (λ depth. nat_le depth 64) (depths n (drop i entries))) e ∙ ap (list_all (λ d. nat_le d 64)) all ∙ and_left _ _ (lt-leb depth 64 gt)) where
-  deep_later : (ts : List Tac) (h i : ℕ) → list_all (λ depth. nat_le depth 64) (depths (h + i) (drop i ts)) ≡ false → list_all (λ depth. nat_le depth 64) (depths h ts) ≡ false
-  deep_later ts h zero deep = let e : h ≡ h + 0 = omega arith in ap (λ n. list_all (λ depth. nat_le depth 64) (depths n ts)) e ∙ deep
-  deep_later [] h (suc i) deep = deep
-  deep_later (t ∷ ts) h (suc i) deep =
-      let e : h + 1 + i ≡ h + suc i = omega arith in
-      and_right _ _ (deep_later ts (h + 1) i (ap (λ n. list_all (λ depth. nat_le depth 64) (depths n (drop i ts))) e ∙ deep))
+      deep_later : (ts : List Tac) (h i : ℕ) → list_all (λ depth. nat_le depth 64) (depths (h + i) (drop i ts)) ≡ false → list_all (λ depth. nat_le depth 64) (depths h ts) ≡ false
+      deep_later ts h zero deep = let e : h ≡ h + 0 = omega arith in ap (λ n. list_all (λ depth. nat_le depth 64) (depths n ts)) e ∙ deep
+      deep_later [] h (suc i) deep = deep
+      deep_later (t ∷ ts) h (suc i) deep =
+          let e : h + 1 + i ≡ h + suc i = omega arith in
+          and_right _ _ (deep_later ts (h + 1) i (ap (λ n. list_all (λ depth. nat_le depth 64) (depths n (drop i ts))) e ∙ deep))

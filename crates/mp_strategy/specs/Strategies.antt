@@ -9,7 +9,6 @@ use Rattle.mp_logic.specs.Steps as steps
 use Rattle.mp_logic.specs.Trees.{leaves_of, graft_of}
 use Rattle.mp_strategy.specs.declared.tactic.Tac.{Tac}
 use Rattle.mp_strategy.specs.declared.tactic.Tac.TheVariants as tac
-use Rattle.mp_strategy.specs.declared.tactic.TacId.{TacId}
 use Rattle.mp_strategy.specs.declared.outcome.Kind.{Kind}
 use Rattle.mp_strategy.specs.declared.outcome.Kind.TheVariants as kind
 use Rattle.mp_strategy.specs.declared.outcome.Failure.{Failure}

@@ -1,4 +1,4 @@
-use Rattle.std.proofs.Common.{◌≡◌, ◌+◌, ◌-◌, ◌<◌, ◌≤◌, length, get_or, refl, sym, subst, arith, true}
+use Rattle.std.proofs.Common.{◌≡◌, ◌+◌, ◌-◌, ◌<◌, length, refl, sym, subst, arith}
 use Rattle.mp_strategy.specs.declared.tactic.Tac.TheVariants as tac
 use Rattle.mp_strategy.proofs.Tables.{Found, found_start, found_next, too_deep, parts_at, parts_within}
 use Rattle.mp_strategy.proofs.fitting.is_shallow.Goals as goal
