@@ -1,5 +1,5 @@
 -- The laws of weakening and of substitution, each as one statement.
-use Rattle.std.specs.Prelude.{◌≡◌, ℕ, ◌+◌, ◌≤◌, max, List, ◌++◌, map, length, IsTrue, All}
+use Rattle.std.specs.Prelude.{◌≡◌, ℕ, ◌+◌, ◌*◌, ◌≤◌, max, List, ◌++◌, map, length, IsTrue, All}
 use Rattle.mp_term.specs.declared.term.Term.{Term}
 use Rattle.mp_term.specs.Terms.{size_of, depth_of, greatest, in_scope_of}
 use Rattle.mp_term.specs.Limits.{few_binders_of}
@@ -58,6 +58,10 @@ abbrev pub WidthAfterSubstitution : Type 0
 WidthAfterSubstitution =
     (s : List Term) (m : ℕ) (t : Term) → IsTrue (in_scope_of t (length s)) →
     widest_of (sub_of t s m) m + length s ≤ widest_of t (length s) + widest_in m s
+
+-- where no subterm has more than 8 binders, each level of depth widens the scope by 8 at most
+abbrev pub WidthOfFewBinders : Type 0
+WidthOfFewBinders = (t : Term) (n : ℕ) → IsTrue (few_binders_of t) → widest_of t n ≤ n + 8 * depth_of t
 
 -- weakening keeps the size and the depth
 abbrev pub SizeAfterWeakening : Type 0
