@@ -194,12 +194,12 @@ renaming_of levels n t (Some u) distinct below scoped is =
     let q : n + 0 ≡ n = omega arith in
     let both = rw (under-none, q, p) at (sub-unrenamed levels n distinct below t 0 u (rw q scoped) (sym is)) in
     (both.1, both.0, only) where
-  only : (v : Term) → IsTrue (in_scope_of v (length levels)) → sub_of v (map Var levels) n ≡ t → v ≡ u
-  only v inner e =
-      let p' : length levels + 0 ≡ length levels = omega arith in
-      let q' : n + 0 ≡ n = omega arith in
-      let undone = rw (under-none, q', e) at (unrenamed-sub levels n distinct below v 0 (rw p' inner)) in
-      cc
+      only : (v : Term) → IsTrue (in_scope_of v (length levels)) → sub_of v (map Var levels) n ≡ t → v ≡ u
+      only v inner e =
+          let p' : length levels + 0 ≡ length levels = omega arith in
+          let q' : n + 0 ≡ n = omega arith in
+          let undone = rw (under-none, q', e) at (unrenamed-sub levels n distinct below v 0 (rw p' inner)) in
+          cc
 
 cases : (b : Bool) → (b ≡ true) ⊎ (b ≡ false)
 cases true = inl refl

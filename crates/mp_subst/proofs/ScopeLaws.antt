@@ -12,7 +12,7 @@ use Rattle.mp_term.specs.Terms.{in_scope_of, at_scope}
 use Rattle.mp_term.proofs.Layers.{scoped_bound, in_scope-Var, in_scope-Op, scoped_bound-is}
 use Rattle.mp_subst.specs.Subst.{weak, weak_bound, under, sub_of, sub_bound_of, sub_each, AreInScope, widest_of, widest_at, width_bound, widest_in}
 use Rattle.mp_subst.proofs.Layers.{weak-Var, weak-Op, weak_bound-is, sub-Var, sub-Op, sub_bound-is, widest-Var, widest-Op, width_bound-is}
-use Rattle.mp_subst.proofs.SubLaws.{under-under, under-low, under-high, AreInScope-at, widest_in-at, widest_in-ge}
+use Rattle.mp_subst.proofs.SubLaws.{under-under, under-low, under-high, under-none, AreInScope-at, widest_in-at, widest_in-ge}
 
 module _ (m k : ℕ) where
   abbrev StaysIn : Term → Type 0
@@ -97,7 +97,7 @@ module _ (s : List Term) (m : ℕ) (all : AreInScope m s) where
 
 module _ (s : List Term) (m : ℕ) where
   abbrev Spreads : Term → Type 0
-  Spreads t = (k : ℕ) → IsTrue (in_scope_of t (length s + k)) → widest_of (sub_of t (under s m k) (m + k)) (m + k) ≤ widest_of t (length s + k) + widest_in m s
+  Spreads t = (k : ℕ) → IsTrue (in_scope_of t (length s + k)) → widest_of (sub_of t (under s m k) (m + k)) (m + k) + length s ≤ widest_of t (length s + k) + widest_in m s
 
   spreads_var : (i : ℕ) → Spreads (Var i)
   spreads_var i k h =
@@ -116,7 +116,7 @@ module _ (s : List Term) (m : ℕ) where
       ])
 
   spreads_bounds : (bs : List Bound) (k : ℕ) → OfEachBody Spreads bs → IsTrue (at_scope (length s + k) (map scoped_bound bs)) →
-      widest_at (m + k) (map width_bound (sub_each (map sub_bound_of bs) (under s m k) (m + k))) ≤ widest_at (length s + k) (map width_bound bs) + widest_in m s
+      widest_at (m + k) (map width_bound (sub_each (map sub_bound_of bs) (under s m k) (m + k))) + length s ≤ widest_at (length s + k) (map width_bound bs) + widest_in m s
   spreads_bounds [] k h scoped = omega (arith, widest_in-ge m s)
   spreads_bounds (b ∷ bs) k h scoped =
       let first_scoped : IsTrue (scoped_bound b (length s + k)) = grind (arith, common_steps) in
@@ -126,12 +126,53 @@ module _ (s : List Term) (m : ℕ) where
       let here = rw (scoped_bound-is, e) at first_scoped in
       let body = h.0 (k + b.binders) here in
       let ge = widest_in-ge m s in
-      let first : width_bound (sub_bound_of b (under s m k) (m + k)) (m + k) ≤ width_bound b (length s + k) + widest_in m s =
+      let first : width_bound (sub_bound_of b (under s m k) (m + k)) (m + k) + length s ≤ width_bound b (length s + k) + widest_in m s =
       rw (sub_bound-is, width_bound-is, width_bound-is, under-under, e, e') (omega (arith, body, ge)) in
       let rest = spreads_bounds bs k h.1 rest_scoped in omega (arith, first, rest)
 
   spreads_op : (o : Sym) (ps : List Param) (bs : List Bound) → OfEachBody Spreads bs → Spreads (Op o ps bs)
   spreads_op o ps bs h k scoped = let c = rw in_scope-Op at scoped in rw (sub-Op _ o ps bs (under s m k) (m + k) refl, widest-Op, widest-Op) (spreads_bounds bs k h c)
 
-  pub widest-sub : (t : Term) (k : ℕ) → IsTrue (in_scope_of t (length s + k)) → widest_of (sub_of t (under s m k) (m + k)) (m + k) ≤ widest_of t (length s + k) + widest_in m s
+  pub widest-sub : (t : Term) (k : ℕ) → IsTrue (in_scope_of t (length s + k)) → widest_of (sub_of t (under s m k) (m + k)) (m + k) + length s ≤ widest_of t (length s + k) + widest_in m s
   widest-sub = each_term Spreads spreads_var spreads_op
+
+-- what a variable's term asks of its weakening
+pub low_narrow : (s : List Term) (m k i most : ℕ) (d u : Term) → i < length s → u ≡ get_or s i u →
+    widest_of (get_or (under s m k) i d) (m + k) < most → widest_of u m + k < most
+low_narrow s m k i most d u low is h =
+    let item : get_or (under s m k) i d ≡ weak m k u = rw (under-low s m k i d u low, ← is) refl in
+    let z : m + 0 ≡ m = omega arith in
+    let z' : m + k + 0 ≡ m + k = omega arith in
+    let wide = rw (z, z') at (widest-weak m k u 0) in
+    rw (item, wide) at h
+
+-- and a bound variable of its scope
+pub high_narrow : (s : List Term) (m k i most : ℕ) (d : Term) → length s ≤ i → i < length s + k →
+    widest_of (get_or (under s m k) i d) (m + k) < most → m + k < most
+high_narrow s m k i most d high inside h = rw (under-high s m k i d high inside, widest-Var) at h
+
+-- the laws at the outermost place
+pub scope_weakened : (n k : ℕ) (t : Term) → IsTrue (in_scope_of t n) → IsTrue (in_scope_of (weak n k t) (n + k))
+scope_weakened n k t scoped =
+    let z : n + 0 ≡ n = omega arith in
+    let z' : n + k + 0 ≡ n + k = omega arith in
+    rw z' at (in_scope-weak n k t 0 (rw z scoped))
+
+pub scope_substituted : (s : List Term) (m : ℕ) (t : Term) → AreInScope m s → IsTrue (in_scope_of t (length s)) → IsTrue (in_scope_of (sub_of t s m) m)
+scope_substituted s m t all scoped =
+    let z : length s + 0 ≡ length s = omega arith in
+    let z' : m + 0 ≡ m = omega arith in
+    rw (under-none, z') at (in_scope-sub s m all t 0 (rw z scoped))
+
+pub width_weakened : (n k : ℕ) (t : Term) → widest_of (weak n k t) (n + k) ≡ widest_of t n + k
+width_weakened n k t =
+    let z : n + 0 ≡ n = omega arith in
+    let z' : n + k + 0 ≡ n + k = omega arith in
+    rw (z', z) at (widest-weak n k t 0)
+
+pub width_substituted : (s : List Term) (m : ℕ) (t : Term) → IsTrue (in_scope_of t (length s)) →
+    widest_of (sub_of t s m) m + length s ≤ widest_of t (length s) + widest_in m s
+width_substituted s m t scoped =
+    let z : length s + 0 ≡ length s = omega arith in
+    let z' : m + 0 ≡ m = omega arith in
+    rw (under-none, z', z) at (widest-sub s m t 0 (rw z scoped))

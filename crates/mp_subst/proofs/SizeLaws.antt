@@ -1,5 +1,5 @@
 -- The size and the depth after weakening and after substitution.
-use Rattle.std.proofs.Common.{◌≡◌, ℕ, ◌+◌, ◌≤◌, List, [], ◌∷◌, length, map, get_or, sum, refl, inl, inr, arith}
+use Rattle.std.proofs.Common.{◌≡◌, ℕ, ◌+◌, ◌≤◌, List, [], ◌∷◌, length, map, get_or, suc, zero, max, sum, refl, inl, inr, arith}
 use Rattle.std.proofs.lemmas.Bool.{cases_lt}
 use Rattle.std.proofs.lemmas.Grind.{common_steps}
 use Rattle.std.proofs.lemmas.List.{length-map, get_or-map, get_or_past}
@@ -173,3 +173,28 @@ module _ (sizes : List ℕ) (some : (i : ℕ) → 1 ≤ get_or sizes i 1) where
 
   pub sub_size-least : (t : Term) → size_of t ≤ sub_size sizes t
   sub_size-least = each_term IsGrown grown_var grown_op
+
+size-some : (t : Term) → 1 ≤ size_of t
+size-some = each_term (λ t. 1 ≤ size_of t) (λ i. rw size-Var (omega arith)) (λ o ps bs h. rw size-Op (omega arith))
+
+sizes-some : (s : List Term) (i : ℕ) → 1 ≤ get_or (map size_of s) i 1
+sizes-some [] i = omega arith
+sizes-some (t ∷ s) zero = size-some t
+sizes-some (t ∷ s) (suc i) = sizes-some s i
+
+depths-most : (s : List Term) (i : ℕ) → get_or (map depth_of s) i 1 ≤ max 1 (greatest (map depth_of s))
+depths-most [] i = omega arith
+depths-most (t ∷ s) zero = omega arith
+depths-most (t ∷ s) (suc i) = omega (arith, depths-most s i)
+
+-- the laws at the outermost place
+pub size_substituted : (s : List Term) (m : ℕ) (t : Term) → (size_of (sub_of t s m) ≡ sub_size (map size_of s) t) × (size_of t ≤ size_of (sub_of t s m))
+size_substituted s m t =
+    let e = size-sub s m t in
+    (e, rw e (sub_size-least (map size_of s) (sizes-some s) t))
+
+pub depth_substituted : (s : List Term) (m : ℕ) (t : Term) →
+    (depth_of (sub_of t s m) ≡ sub_depth (map depth_of s) t) × (depth_of (sub_of t s m) + 1 ≤ depth_of t + max 1 (greatest (map depth_of s)))
+depth_substituted s m t =
+    let e = depth-sub s m t in
+    (e, rw e (sub_depth-most (map depth_of s) (max 1 (greatest (map depth_of s))) (omega arith) (depths-most s) t))

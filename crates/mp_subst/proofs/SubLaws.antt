@@ -1,5 +1,5 @@
 -- Laws of substitution: how the list of terms grows under binders.
-use Rattle.std.proofs.Common.{◌≡◌, ℕ, ◌+◌, ◌-◌, ◌<◌, ◌≤◌, ◌^◌, List, [], ◌∷◌, ◌++◌, length, map, get_or, zero, IsTrue, suc, refl, sym, ap, ◌∙◌, append_assoc, append-nil, add-one, drop, rules, arith}
+use Rattle.std.proofs.Common.{◌≡◌, ℕ, ◌+◌, ◌-◌, ◌<◌, ◌≤◌, ◌^◌, List, [], ◌∷◌, ◌++◌, length, map, get_or, max, zero, IsTrue, suc, refl, sym, ap, ◌∙◌, append_assoc, append-nil, add-one, drop, rules, arith}
 use Rattle.std.proofs.Math.ListN.{drop_of_length-le}
 use Rattle.std.proofs.Math.Seq.{drop-cons}
 use Rattle.std.proofs.lemmas.Bool.Decides.{nat_tests}
@@ -10,7 +10,7 @@ use Rattle.mp_term.specs.declared.term.Bound.{Bound}
 use Rattle.mp_term.specs.Terms.{in_scope_of, at_scope}
 use Rattle.mp_term.proofs.Layers.{scoped_bound}
 use Rattle.mp_subst.specs.Subst.{weak, variables, under, sub_of, sub_bound_of, sub_each, widest_in, widest_of, widest_at, width_bound, AreInScope}
-use Rattle.mp_subst.proofs.Layers.{weak-Var}
+use Rattle.mp_subst.proofs.Layers.{weak-Var, width_bound-is}
 use Rattle.mp_subst.proofs.WeakLaws.{weak-weak, weak-none}
 
 pub length-variables : (m k : ℕ) → length (variables m k) ≡ k
@@ -110,25 +110,46 @@ pub ruleset none_under = (under-none)
 pub drop-at : {X : Type 0} (xs : List X) (i : ℕ) (x : X) → i < length xs → x ≡ get_or xs i x → drop i xs ≡ x ∷ drop (i + 1) xs
 drop-at xs i x h is = rw (add-one, drop-cons xs i x h) (ap (λ y. y ∷ drop (suc i) xs) (sym is))
 
+-- the widest scope in a body that was replaced is the widest one in what the loop asks
+pub made_width_within : (b : Bound) (s : List Term) (m n scope : ℕ) → n ≤ scope →
+    width_bound (sub_bound_of b (under s m (scope - n)) (m + (scope - n))) (m + (scope - n))
+    ≡ max (m + (scope + b.binders - n)) (widest_of (sub_of b.body (under s m (scope + b.binders - n)) (m + (scope + b.binders - n))) (m + (scope + b.binders - n)))
+made_width_within b s m n scope h =
+    let e : m + (scope - n) + b.binders ≡ m + (scope + b.binders - n) = omega arith in
+    rw (sub_bound_within b s m n scope h, width_bound-is, e) refl
+
 -- what the loop over the bound subterms keeps
-pub record Replaced (items made : List Bound) (i scope room : ℕ) (terms : List Term) (inner : ℕ) : Type 0 where
+pub record Replaced (items made : List Bound) (i scope : ℕ) (terms : List Term) (inner : ℕ) : Type 0 where
   pub scoped : IsTrue (at_scope scope (map scoped_bound (drop i items)))
-  pub narrow : widest_at scope (map width_bound (drop i items)) + room < 2 ^ 31
+  pub narrow : widest_at scope (map width_bound (drop i items)) < 2 ^ 31
+  pub made_narrow : widest_at inner (map width_bound (sub_each (map sub_bound_of (drop i items)) terms inner)) < 2 ^ 31
   pub done : made ++ sub_each (map sub_bound_of (drop i items)) terms inner ≡ sub_each (map sub_bound_of items) terms inner
 
-module _ (items made : List Bound) (i scope room : ℕ) (terms : List Term) (inner : ℕ) where
+module _ (items made : List Bound) (i scope : ℕ) (terms : List Term) (inner : ℕ) where
   pub Replaced-next : (b new : Bound) (more : List Bound) → i < length items → b ≡ get_or items i b → new ≡ sub_bound_of b terms inner →
-      more ≡ made ++ new ∷ [] → Replaced items made i scope room terms inner → Replaced items more (i + 1) scope room terms inner
+      more ≡ made ++ new ∷ [] → Replaced items made i scope terms inner → Replaced items more (i + 1) scope terms inner
   Replaced-next b new more h is e pushed r =
       let next = drop-at items i b h is in
       let scoped = rw next at r.scoped in
       let narrow = rw next at r.narrow in
+      let made_narrow = rw next at r.made_narrow in
       let done = rw next at r.done in
       record {
         scoped = grind (arith, common_steps, scoped);
         narrow = omega (arith, narrow);
+        made_narrow = omega (arith, made_narrow);
         done = rw (pushed, e, append_assoc) done;
       }
 
-  pub Replaced-end : length items ≤ i → Replaced items made i scope room terms inner → made ≡ sub_each (map sub_bound_of items) terms inner
+  pub Replaced-end : length items ≤ i → Replaced items made i scope terms inner → made ≡ sub_each (map sub_bound_of items) terms inner
   Replaced-end h r = let none = drop_of_length-le items h in sym (append-nil made) ∙ (rw none at r.done)
+
+  -- the subterm that comes next is in scope and narrow, before and after
+  pub Replaced-here : (b : Bound) → i < length items → b ≡ get_or items i b → Replaced items made i scope terms inner →
+      IsTrue (scoped_bound b scope) × (width_bound b scope < 2 ^ 31) × (width_bound (sub_bound_of b terms inner) inner < 2 ^ 31)
+  Replaced-here b h is r =
+      let next = drop-at items i b h is in
+      let scoped = rw next at r.scoped in
+      let narrow = rw next at r.narrow in
+      let made_narrow = rw next at r.made_narrow in
+      (grind (arith, common_steps, scoped), omega (arith, narrow), omega (arith, made_narrow))
