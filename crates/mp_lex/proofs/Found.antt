@@ -48,17 +48,17 @@ checked_right kind why n bytes pos most = branch (IsRight bytes) (is_text kind (
 
 blank_right : (b : ℕ) (bs : List ℕ) → is_blank b ≡ true → ArePassed (b ∷ bs) 1
 blank_right b bs e = record {
-    some = omega arith;
-    within = omega arith;
-    last = λ h. step true bs ∙ h;
-    more = λ m _ h. ap (only_separators false false) (take_next m b bs) ∙ step false (take m bs) ∙ h;
-  }
+  some = omega arith;
+  within = omega arith;
+  last = λ h. step true bs ∙ h;
+  more = λ m _ h. ap (only_separators false false) (take_next m b bs) ∙ step false (take m bs) ∙ h;
+}
   where
-  other : nat_eq b 35 ≡ false
-  other = grind (arith, nat_tests)
+    other : nat_eq b 35 ≡ false
+    other = grind (arith, nat_tests)
 
-  step : (last : Bool) (xs : List ℕ) → only_separators last false (b ∷ xs) ≡ only_separators last false xs
-  step last xs = no (nat_eq b 35) (only_separators last true xs) (is_blank b && only_separators last false xs) other ∙ ap (λ t. t && only_separators last false xs) e
+    step : (last : Bool) (xs : List ℕ) → only_separators last false (b ∷ xs) ≡ only_separators last false xs
+    step last xs = no (nat_eq b 35) (only_separators last true xs) (is_blank b && only_separators last false xs) other ∙ ap (λ t. t && only_separators last false xs) e
 
 -- a comment's bytes
 in_comment : (last : Bool) (bs xs : List ℕ) → only_separators last true (take (prefix_len is_comment bs) bs ++ xs) ≡ only_separators last true xs
@@ -67,9 +67,9 @@ in_comment last (b ∷ bs) xs =
     let p = prefix_len is_comment bs in
     branch (λ (n : ℕ). only_separators last true (take n (b ∷ bs) ++ xs) ≡ only_separators last true xs) (is_comment b) (1 + p) 0
     (λ e. let other : nat_eq b 10 ≡ false = grind (arith, nat_tests) in
-      ap (λ ys. only_separators last true (ys ++ xs)) (take_next p b bs)
-      ∙ no (nat_eq b 10) (only_separators last false (take p bs ++ xs)) (is_comment b && only_separators last true (take p bs ++ xs)) other
-      ∙ ap (λ t. t && only_separators last true (take p bs ++ xs)) e ∙ in_comment last bs xs)
+    ap (λ ys. only_separators last true (ys ++ xs)) (take_next p b bs)
+    ∙ no (nat_eq b 10) (only_separators last false (take p bs ++ xs)) (is_comment b && only_separators last true (take p bs ++ xs)) other
+    ∙ ap (λ t. t && only_separators last true (take p bs ++ xs)) e ∙ in_comment last bs xs)
     (λ _. refl)
 
 ended_right : (bs behind : List ℕ) → drop (prefix_len is_comment bs) bs ≡ behind → IsRight (35 ∷ bs) (ended_comment (1 + prefix_len is_comment bs) behind)
@@ -88,24 +88,24 @@ ended_right bs (c ∷ rest) e =
     branch (IsRight (35 ∷ bs)) (nat_eq c 10) (front.Passed (1 + p + 1)) (front.Bad (1 + p) BadByte)
     (λ f. line bs rest (e ∙ ap (λ x. x ∷ rest) (eqb-true c 10 f))) (λ _. tt)
   where
-  line : (bs rest : List ℕ) → drop (prefix_len is_comment bs) bs ≡ 10 ∷ rest → ArePassed (35 ∷ bs) (1 + prefix_len is_comment bs + 1)
-  line bs rest e =
-      let p = prefix_len is_comment bs in
-      let whole : take p bs ++ 10 ∷ rest ≡ bs = ap (λ ys. take p bs ++ ys) (sym e) ∙ take-append-drop p bs in
-      let run : length (take p bs) ≡ p = length-prefix_len is_comment bs in
-      let size : length (take p bs) + suc (length rest) ≡ length bs = sym (length-append (take p bs) (10 ∷ rest)) ∙ ap length whole in
-      let later : 1 + p + 1 ≡ suc (p + 1) = omega arith in
-      let suffix : drop (1 + p + 1) (35 ∷ bs) ≡ rest = ap (λ k. drop k (35 ∷ bs)) later ∙ sym (drop-drop 1 p bs ∙ ap (λ k. drop k bs) (omega arith)) ∙ ap (drop 1) e in
-      record {
-        some = omega arith;
-        within = omega (arith, run, size);
-        last = λ h. ap (only_separators true true) (sym whole) ∙ in_comment true bs (10 ∷ rest) ∙ ap (only_separators true false) (sym suffix) ∙ h;
-        more = λ m _ h.
-          let longer : 1 + p + 1 + m ≡ suc (p + (1 + m)) = omega arith in
-          let cut : take (p + (1 + m)) bs ≡ take p bs ++ 10 ∷ take m rest = take-add p (1 + m) bs ∙ ap (λ ys. take p bs ++ take (1 + m) ys) e ∙ ap (λ ys. take p bs ++ ys) (take_next m 10 rest) in
-          ap (λ k. only_separators false false (take k (35 ∷ bs))) longer ∙ ap (only_separators false true) cut ∙ in_comment false bs (10 ∷ take m rest)
-          ∙ ap (λ ys. only_separators false false (take m ys)) (sym suffix) ∙ h;
-      }
+    line : (bs rest : List ℕ) → drop (prefix_len is_comment bs) bs ≡ 10 ∷ rest → ArePassed (35 ∷ bs) (1 + prefix_len is_comment bs + 1)
+    line bs rest e =
+        let p = prefix_len is_comment bs in
+        let whole : take p bs ++ 10 ∷ rest ≡ bs = ap (λ ys. take p bs ++ ys) (sym e) ∙ take-append-drop p bs in
+        let run : length (take p bs) ≡ p = length-prefix_len is_comment bs in
+        let size : length (take p bs) + suc (length rest) ≡ length bs = sym (length-append (take p bs) (10 ∷ rest)) ∙ ap length whole in
+        let later : 1 + p + 1 ≡ suc (p + 1) = omega arith in
+        let suffix : drop (1 + p + 1) (35 ∷ bs) ≡ rest = ap (λ k. drop k (35 ∷ bs)) later ∙ sym (drop-drop 1 p bs ∙ ap (λ k. drop k bs) (omega arith)) ∙ ap (drop 1) e in
+        record {
+          some = omega arith;
+          within = omega (arith, run, size);
+          last = λ h. ap (only_separators true true) (sym whole) ∙ in_comment true bs (10 ∷ rest) ∙ ap (only_separators true false) (sym suffix) ∙ h;
+          more = λ m _ h.
+              let longer : 1 + p + 1 + m ≡ suc (p + (1 + m)) = omega arith in
+              let cut : take (p + (1 + m)) bs ≡ take p bs ++ 10 ∷ take m rest = take-add p (1 + m) bs ∙ ap (λ ys. take p bs ++ take (1 + m) ys) e ∙ ap (λ ys. take p bs ++ ys) (take_next m 10 rest) in
+              ap (λ k. only_separators false false (take k (35 ∷ bs))) longer ∙ ap (only_separators false true) cut ∙ in_comment false bs (10 ∷ take m rest)
+              ∙ ap (λ ys. only_separators false false (take m ys)) (sym suffix) ∙ h;
+        }
 
 -- what is passed over after `#`
 comment_right : (bs : List ℕ) → IsRight (35 ∷ bs) (comment_of bs)
@@ -170,11 +170,11 @@ found_right b bs =
     branch P (is_small b) (checked Small LongName words (b ∷ bs)) _ (λ e. let n : words ≡ 1 + prefix_len is_word bs = word_run b bs (small_word b e) in checked_right Small LongName words (b ∷ bs) (omega (arith, n)) all)
     (λ _. branch P (is_cap b) (checked Cap LongName words (b ∷ bs)) _ (λ e. let n : words ≡ 1 + prefix_len is_word bs = word_run b bs (cap_word b e) in checked_right Cap LongName words (b ∷ bs) (omega (arith, n)) all)
     (λ _. branch P (is_digit b) (checked Num BadNumber digits (b ∷ bs)) _
-      (λ e. let n : digits ≡ 1 + prefix_len is_digit bs = yes (is_digit b) (1 + prefix_len is_digit bs) 0 e in checked_right Num BadNumber digits (b ∷ bs) (omega (arith, n)) (prefix_len-le-length is_digit (b ∷ bs)))
+    (λ e. let n : digits ≡ 1 + prefix_len is_digit bs = yes (is_digit b) (1 + prefix_len is_digit bs) 0 e in checked_right Num BadNumber digits (b ∷ bs) (omega (arith, n)) (prefix_len-le-length is_digit (b ∷ bs)))
     (λ _. branch P (is_blank b) (front.Passed 1) _ (λ e. blank_right b bs e)
     (λ _. branch P (nat_eq b 35) (comment_of bs) _ (λ e. subst (λ x. IsRight (x ∷ bs) (comment_of bs)) (sym (eqb-true b 35 e)) (comment_right bs))
     (λ _. branch P (nat_eq b 39) (variable_of (b ∷ bs) bs) _ (λ e. subst (λ x. IsRight (x ∷ bs) (variable_of (x ∷ bs) bs)) (sym (eqb-true b 39 e)) (variable_right bs))
     (λ _. branch P (nat_eq b 34) (checked Str BadString (1 + string_len false bs) (b ∷ bs)) _ (λ _. checked_right Str BadString (1 + string_len false bs) (b ∷ bs) (omega arith) (omega (arith, string_len-le false bs)))
     (λ _. branch P (nat_eq b 45 && begins_with is_digit bs) (checked Num BadNumber (1 + prefix_len is_digit bs) (b ∷ bs)) (mark_of (mark_len (b ∷ bs)))
-      (λ _. checked_right Num BadNumber (1 + prefix_len is_digit bs) (b ∷ bs) (omega arith) (omega (arith, prefix_len-le-length is_digit bs)))
-      (λ _. mark_right (b ∷ bs) (mark_len (b ∷ bs)) (mark_len_right b bs)))))))))
+    (λ _. checked_right Num BadNumber (1 + prefix_len is_digit bs) (b ∷ bs) (omega arith) (omega (arith, prefix_len-le-length is_digit bs)))
+    (λ _. mark_right (b ∷ bs) (mark_len (b ∷ bs)) (mark_len_right b bs)))))))))

@@ -1,5 +1,6 @@
 pub mod Found
 pub mod Fronts
+pub mod Laws
 pub mod Longest
 pub mod Passes
 pub mod Runs

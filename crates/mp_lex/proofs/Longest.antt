@@ -122,14 +122,14 @@ covers_negative (suc n) (b ∷ bs) h e =
     let inner = and_parts (nat_eq b 45) (is_positive (take n bs)) parts.0 in
     at_byte b 45 (suc n) bs inner.0 (behind_minus n bs (omega (arith, h)) inner.1)
   where
-  behind_minus : (n : ℕ) (bs : List ℕ) → n ≤ length bs → is_positive (take n bs) ≡ true → Covers (suc n) (front_of (45 ∷ bs))
-  behind_minus zero bs h e = absurd (true≢false (sym e))
-  behind_minus (suc n) [] h e = absurd (omega (arith, h))
-  behind_minus (suc n) (d ∷ ds) h e =
-      let digits = (and_parts (not (nat_eq d 48)) (list_all is_digit (d ∷ take n ds)) e).1 in
-      let first : is_digit d ≡ true = (and_parts (is_digit d) (list_all is_digit (take n ds)) digits).0 in
-      let long = run_covers is_digit (suc n) (d ∷ ds) h digits in
-      subst (Covers (suc (suc n))) (sym (yes (is_digit d) _ _ first)) (checked_covers Num BadNumber (suc (suc n)) (1 + prefix_len is_digit (d ∷ ds)) (45 ∷ d ∷ ds) (omega (arith, long)))
+    behind_minus : (n : ℕ) (bs : List ℕ) → n ≤ length bs → is_positive (take n bs) ≡ true → Covers (suc n) (front_of (45 ∷ bs))
+    behind_minus zero bs h e = absurd (true≢false (sym e))
+    behind_minus (suc n) [] h e = absurd (omega (arith, h))
+    behind_minus (suc n) (d ∷ ds) h e =
+        let digits = (and_parts (not (nat_eq d 48)) (list_all is_digit (d ∷ take n ds)) e).1 in
+        let first : is_digit d ≡ true = (and_parts (is_digit d) (list_all is_digit (take n ds)) digits).0 in
+        let long = run_covers is_digit (suc n) (d ∷ ds) h digits in
+        subst (Covers (suc (suc n))) (sym (yes (is_digit d) _ _ first)) (checked_covers Num BadNumber (suc (suc n)) (1 + prefix_len is_digit (d ∷ ds)) (45 ∷ d ∷ ds) (omega (arith, long)))
 
 covers_positive : (n : ℕ) (bytes : List ℕ) → n ≤ length bytes → is_positive (take n bytes) ≡ true → Covers n (front_of bytes)
 covers_positive zero bytes h e = absurd (true≢false (sym e))
@@ -147,7 +147,7 @@ covers_number n bytes h =
     let xs = take n bytes in
     either (pointwise nat_eq (codes "0") xs || (is_positive xs && nat_lt (value_of xs) 9223372036854775808)) (is_negative xs)
     (either (pointwise nat_eq (codes "0") xs) (is_positive xs && nat_lt (value_of xs) 9223372036854775808) (covers_zero n bytes h)
-      (λ e. covers_positive n bytes h (and_parts (is_positive xs) (nat_lt (value_of xs) 9223372036854775808) e).0))
+    (λ e. covers_positive n bytes h (and_parts (is_positive xs) (nat_lt (value_of xs) 9223372036854775808) e).0))
     (covers_negative n bytes h)
 
 covers_closed : (escaped : Bool) (n : ℕ) (bs : List ℕ) → n ≤ length bs → closes escaped (take n bs) ≡ true → n ≤ string_len escaped bs
@@ -159,9 +159,9 @@ covers_closed true (suc n) (b ∷ bs) h e =
     omega (arith, rest)
 covers_closed false (suc n) (b ∷ bs) h e = by_quote (nat_eq b 34) (is_printed b) n (string_len (nat_eq b 92) bs) (closes (nat_eq b 92) (take n bs)) (length (take n bs)) (length-take-le n bs (omega (arith, h))) (covers_closed (nat_eq b 92) n bs (omega (arith, h))) e
   where
-  by_quote : (t p : Bool) (n k : ℕ) (c : Bool) (m : ℕ) → m ≡ n → (c ≡ true → n ≤ k) → (if t then nat_eq m 0 else p && c) ≡ true → suc n ≤ (if t then 1 else 1 + k)
-  by_quote true p n k c m f g e = let z : m ≡ 0 = eqb-true m 0 e in omega (arith, f, z)
-  by_quote false p n k c m f g e = let rest = g (and_parts p c e).1 in omega (arith, rest)
+    by_quote : (t p : Bool) (n k : ℕ) (c : Bool) (m : ℕ) → m ≡ n → (c ≡ true → n ≤ k) → (if t then nat_eq m 0 else p && c) ≡ true → suc n ≤ (if t then 1 else 1 + k)
+    by_quote true p n k c m f g e = let z : m ≡ 0 = eqb-true m 0 e in omega (arith, f, z)
+    by_quote false p n k c m f g e = let rest = g (and_parts p c e).1 in omega (arith, rest)
 
 covers_string : (n : ℕ) (bytes : List ℕ) → n ≤ length bytes → is_string (take n bytes) ≡ true → Covers n (front_of bytes)
 covers_string zero bytes h e = absurd (true≢false (sym e))
@@ -182,9 +182,9 @@ covers_any [] each n bytes h e = absurd (true≢false (sym e))
 covers_any (m ∷ ms) each n bytes h e =
     either (pointwise nat_eq m (take n bytes)) (list_any (λ m. pointwise nat_eq m (take n bytes)) ms)
     (λ f. let same : m ≡ take n bytes = (slice_eq-Decides Decides-eqb m (take n bytes) (pointwise nat_eq m (take n bytes)) refl).0 f in
-      let size : length m ≡ n = ap length same ∙ length-take-le n bytes h in
-      let whole : m ++ drop n bytes ≡ bytes = ap (λ xs. xs ++ drop n bytes) same ∙ take-append-drop n bytes in
-      subst (λ k. Covers k (front_of bytes)) size (subst (λ xs. Covers (length m) (front_of xs)) whole (each.0 (drop n bytes))))
+    let size : length m ≡ n = ap length same ∙ length-take-le n bytes h in
+    let whole : m ++ drop n bytes ≡ bytes = ap (λ xs. xs ++ drop n bytes) same ∙ take-append-drop n bytes in
+    subst (λ k. Covers k (front_of bytes)) size (subst (λ xs. Covers (length m) (front_of xs)) whole (each.0 (drop n bytes))))
     (covers_any ms each.1 n bytes h) e
 
 abbrev MarkCovers : ℕ → ℕ → Type 0
@@ -199,9 +199,37 @@ each_mark : EachFound marks
 each_mark =
     let one : 1 ≤ 1 = omega arith in
     let two : 2 ≤ 2 = omega arith in
-    let three : 3 ≤ 3 = omega arith in
-    (λ r. one, (λ r. one, (λ r. one, (λ r. one, (λ r. one, (λ r. one, (λ r. short 3 r (codes "->") (omega arith), (λ r. short 2 r (codes "-") (omega arith), (λ r. two, (λ r. three,
-    (λ r. three, (λ r. three, (λ r. one, (λ r. one, (λ r. one, (λ r. short 2 r (codes "=") (omega arith), (λ r. two, (λ r. one, (λ r. one, (λ r. one, tt))))))))))))))))))))
+    let three : 3 ≤ 3 = omega arith in (
+      λ r. one,
+      (
+        λ r. one,
+        (
+          λ r. one,
+          (
+            λ r. one,
+            (
+              λ r. one,
+              (
+                λ r. one,
+                (
+                  λ r. short 3 r (codes "->") (omega arith),
+                  (
+                    λ r. short 2 r (codes "-") (omega arith),
+                    (
+                      λ r. two,
+                      (
+                        λ r. three,
+                        (λ r. three, (λ r. three, (λ r. one, (λ r. one, (λ r. one, (λ r. short 2 r (codes "=") (omega arith), (λ r. two, (λ r. one, (λ r. one, (λ r. one, tt)))))))))),
+                      ),
+                    ),
+                  ),
+                ),
+              ),
+            ),
+          ),
+        ),
+      ),
+    )
 
 covers_mark : (n : ℕ) (bytes : List ℕ) → n ≤ length bytes → is_mark (take n bytes) ≡ true → Covers n (front_of bytes)
 covers_mark = covers_any marks each_mark
@@ -219,6 +247,6 @@ covers Mark n bytes h e = covers_mark n bytes h e
 pub longest : (bytes : List ℕ) (kind : Kind) (len : ℕ) → front_of bytes ≡ front.Token kind len → (other : Kind) (n : ℕ) → len < n → n ≤ length bytes → is_text other (take n bytes) ≡ false
 longest bytes kind len e other n more most = decide (is_text other (take n bytes)) refl
   where
-  decide : (t : Bool) → is_text other (take n bytes) ≡ t → t ≡ false
-  decide true f = let all : n ≤ len = subst (Covers n) e (covers other n bytes most f) in absurd (omega (arith, more, all))
-  decide false f = refl
+    decide : (t : Bool) → is_text other (take n bytes) ≡ t → t ≡ false
+    decide true f = let all : n ≤ len = subst (Covers n) e (covers other n bytes most f) in absurd (omega (arith, more, all))
+    decide false f = refl
