@@ -127,7 +127,7 @@ mark_right : (bytes : List ℕ) (n : ℕ) → IsMarkLen bytes n → IsRight byte
 mark_right bytes zero h = tt
 mark_right bytes (suc n) h = record { some = omega arith; within = h.0; form = h.1 }
 
-begins : (m bs : List ℕ) → starts_with nat_eq bs m ≡ true → bs ≡ m ++ drop (length m) bs
+pub begins : (m bs : List ℕ) → starts_with nat_eq bs m ≡ true → bs ≡ m ++ drop (length m) bs
 begins m bs e = (starts_is Decides-eqb bs m (starts_with nat_eq bs m) refl).0 e
 
 two_marks : (b : ℕ) (bs tail : List ℕ) (n k : ℕ) → IsMarkLen (b ∷ bs) k → ((xs : List ℕ) → IsMarkLen (b ∷ (tail ++ xs)) n) → IsMarkLen (b ∷ bs) (if starts_with nat_eq bs tail then n else k)

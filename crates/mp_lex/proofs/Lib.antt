@@ -1,3 +1,5 @@
+pub mod Cuts
+pub mod FirstFault
 pub mod Found
 pub mod Fronts
 pub mod Laws

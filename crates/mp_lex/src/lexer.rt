@@ -1,7 +1,7 @@
-ghost use Rattle.std.specs.Prelude.{◌≡◌, ◌≤◌, drop, length, nat_le, ◌&&◌, IfOk};
+ghost use Rattle.std.specs.Prelude.{◌≡◌, ◌≤◌, drop, length, nat_le, ◌&&◌, IfErr, IfOk};
 ghost use Rattle.mp_lex.specs.Bytes.{is_opening};
 ghost use Rattle.mp_lex.specs.Lex.{lex, Gives, depth_after};
-ghost use Rattle.mp_lex.specs.Spans.{EachToken, IsSpan, HasItsKind, IsLongest, InOrder, AreSeparated};
+ghost use Rattle.mp_lex.specs.Spans.{EachToken, IsSpan, HasItsKind, IsLongest, InOrder, AreSeparated, IsFirstFault};
 
 use crate::byte::{closing, opening};
 use crate::front::{Front, look};
@@ -22,6 +22,7 @@ pub fn tokens(alloc: Global, source: &[u8]) -> Result<List<Token>, LexFail>
     ensures longest { IfOk result (EachToken (IsLongest source.now)) }
     ensures between { IfOk result (AreSeparated source.now 0) }
     ensures few { IfOk result (λ ts. length ts ≤ length source.now) }
+    ensures first { IfErr result (IsFirstFault source.now) }
 {
     let mut tokens = List::new(alloc);
     let mut at = 0usize;
