@@ -1,4 +1,9 @@
+pub mod Cuts
+pub mod FirstFault
+pub mod Found
 pub mod Fronts
+pub mod Laws
+pub mod Longest
 pub mod Passes
 pub mod Runs
 pub mod Strings

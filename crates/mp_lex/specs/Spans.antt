@@ -1,5 +1,5 @@
 -- What the tokens of a text are like, and the place of its fault.
-use Rattle.std.specs.Prelude.{◌≡◌, ℕ, ◌-◌, ◌<◌, ◌≤◌, List, [], ◌∷◌, length, take, drop, slice_get, Some, Ok, Bool, true, false, not, nat_eq, ◌&&◌, ◌||◌, if◌then◌else◌, IsTrue}
+use Rattle.std.specs.Prelude.{◌≡◌, ℕ, ◌-◌, ◌<◌, ◌≤◌, List, [], ◌∷◌, length, take, drop, slice_get, Some, IsOk, Bool, true, false, not, nat_eq, ◌&&◌, ◌||◌, if◌then◌else◌, IsTrue}
 use Rattle.mp_lex.specs.declared.token.Kind.{Kind}
 use Rattle.mp_lex.specs.declared.token.Token.{Token}
 use Rattle.mp_lex.specs.declared.token.LexFail.{LexFail}
@@ -42,5 +42,5 @@ AreSeparated source from (t ∷ ts) = IsTrue (only_separators false false (take 
 
 -- the fault is the first one: what stands before its place has none
 abbrev pub IsFirstFault : List ℕ → LexFail → Type 0
-IsFirstFault source (fail.Bad at why) = (at ≤ length source) × (ts : List Token) × (lex (take at source) ≡ Ok ts)
+IsFirstFault source (fail.Bad at why) = (at ≤ length source) × IsOk (lex (take at source))
 IsFirstFault source fail.NoMemory = Unit {0}
