@@ -9,6 +9,8 @@ use Rattle.mp_strategy.specs.Strategies.{Evals}
 use Rattle.mp_core.specs.declared.node.Node.{Node}
 use Rattle.mp_core.specs.declared.node.Node.TheVariants as node
 use Rattle.mp_core.specs.declared.state.MachineState.{MachineState}
+use Rattle.mp_core.specs.declared.core_calls.Claimed.{Claimed}
+use Rattle.mp_core.specs.declared.core_calls.Claimed.TheVariants as claimed
 use Rattle.mp_core.specs.declared.state.CoreState.{CoreState}
 
 -- each work in the node is such a work
@@ -39,3 +41,10 @@ pub record IsSound {G : Type 0} (is_work : Work G → Type 0) (evals : Work G �
 -- the machine of the core is sound for the core's problem, by the good goals and the steps of the logic
 abbrev pub IsSoundCore : {L J G : Type 0} → (L → G → Bool) → (L → J → G → steps.Outcome G) → CoreState L J G → Type 0
 IsSoundCore good step core = IsSound (IsWork (good core.logic) core.tacs) (Evals (step core.logic) core.justs core.tacs) core.machine
+
+-- a ticket that is handed out has such a work
+abbrev pub TicketHas : {G : Type 0} → (Work G → Type 0) → Claimed G → Type 0
+TicketHas is_work (claimed.Ticket t) = is_work t.work
+TicketHas is_work claimed.Nothing = ⊤
+TicketHas is_work claimed.Finished = ⊤
+TicketHas is_work claimed.Spent = ⊤

@@ -3,7 +3,7 @@ ghost use Rattle.std.specs.Option.{option_copied};
 ghost use Rattle.mp_core.specs.Machine.{opening, claimed_by, reissued, next_for, Reports, lost_by, answer_of, issue_reply, issue_state};
 ghost use Rattle.mp_core.specs.Nodes.{claim_by};
 ghost use Rattle.mp_core.specs.Cores.{moved, started};
-ghost use Rattle.mp_core.specs.Sound.{IsSoundCore};
+ghost use Rattle.mp_core.specs.Sound.{IsSoundCore, TicketHas};
 ghost use Rattle.mp_strategy.specs.Strategies.{Evals};
 ghost use Rattle.mp_strategy.specs.Works.{IsWork};
 
@@ -113,6 +113,7 @@ impl<'p, L: Logic> Core<'p, L> {
         ensures reply { IfOk result (λ r. r ≡ (claimed_by self.old.machine who).0) }
         ensures state { MatchResult result (λ _. self.new ≡ moved self.old (claimed_by self.old.machine who).1) (λ _. self.new ≡ self.old) }
         ensures sound { IsSoundCore L.good L.step_of self.old → IsSoundCore L.good L.step_of self.new }
+        ensures work { IsSoundCore L.good L.step_of self.old → IfOk result (TicketHas (IsWork (L.good self.old.logic) self.old.tacs)) }
     {
         match &self.root {
             Root::Todo => self.issue(alloc, who),
@@ -128,6 +129,7 @@ impl<'p, L: Logic> Core<'p, L> {
         ensures reply { IfOk result (λ r. r ≡ (reissued self.old.machine).0) }
         ensures state { MatchResult result (λ _. self.new ≡ moved self.old (reissued self.old.machine).1) (λ _. self.new ≡ self.old) }
         ensures sound { IsSoundCore L.good L.step_of self.old → IsSoundCore L.good L.step_of self.new }
+        ensures work { IsSoundCore L.good L.step_of self.old → IfOk result (TicketHas (IsWork (L.good self.old.logic) self.old.tacs)) }
     {
         match &self.root {
             Root::Todo => Ok(Claimed::Nothing),
@@ -142,6 +144,7 @@ impl<'p, L: Logic> Core<'p, L> {
         ensures reply { IfOk result (λ r. r ≡ (next_for self.old.machine).0) }
         ensures state { MatchResult result (λ _. self.new ≡ moved self.old (next_for self.old.machine).1) (λ _. self.new ≡ self.old) }
         ensures sound { IsSoundCore L.good L.step_of self.old → IsSoundCore L.good L.step_of self.new }
+        ensures work { IsSoundCore L.good L.step_of self.old → IfOk result (TicketHas (IsWork (L.good self.old.logic) self.old.tacs)) }
     {
         match self.claim(alloc, 0)? {
             Claimed::Nothing => self.reissue(alloc),

@@ -11,3 +11,4 @@ pub use core_calls::{Claimed, Core, Reported};
 pub use law::{every_call_keeps_sound, every_run_is_sound};
 pub use node::Node;
 pub use state::{CoreState, MachineState, Parcel, Ticket};
+pub use works::copy_parcel;
