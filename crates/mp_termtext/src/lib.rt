@@ -7,3 +7,6 @@ mod word;
 
 pub use print::{print_sequent, print_term, push_sequent, push_term};
 pub use word::{Keyword, Mark, Word};
+
+#[cfg(test)]
+mod tests;
