@@ -1,0 +1,6 @@
+pub mod Found
+pub mod Fronts
+pub mod Longest
+pub mod Passes
+pub mod Runs
+pub mod Strings
