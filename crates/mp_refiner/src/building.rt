@@ -1,4 +1,4 @@
-ghost use Rattle.std.specs.Prelude.{◌≡◌, ◌≤◌, IfOk};
+ghost use Rattle.std.specs.Prelude.{◌≡◌, ◌<◌, IfOk};
 ghost use Rattle.mp_term.specs.Terms.{size_of};
 ghost use Rattle.mp_refiner.specs.Instances.{inst};
 ghost use Rattle.mp_refiner.specs.Building.{values_of, room_left};
@@ -6,14 +6,14 @@ ghost use Rattle.mp_refiner.specs.Building.{values_of, room_left};
 use crate::Pattern;
 use crate::grown::add;
 use crate::value::{Value, value_of};
-use mp_logic::{List, NoMemory};
+use mp_logic::{List, NoMemory, Sym};
 use mp_term::{Bound, Term, copy, size};
 use std::alloc::Global;
 
 /// What is left of the room when the pattern's instance has taken its size, and None where it is larger.
 /// It ends as soon as the room is used up.
 pub(crate) fn room_after(p: &Pattern, values: &List<Value>, room: u64) -> Option<u64>
-    requires small { room ≤ 20000 }
+    requires counted { room < 18446744073709551615 }
     ensures { result ≡ room_left room (size_of (inst (values_of values.now) p.now)) }
 {
     match p {
@@ -48,7 +48,7 @@ pub(crate) fn build(alloc: Global, p: &Pattern, values: &List<Value>) -> Result<
         Pattern::Meta(name) => match value_of(values, *name) {
             Some(value) => copy(alloc, &value.term),
             None => Ok(Term::Op {
-                op: mp_logic::Sym(0),
+                op: Sym(0),
                 params: List::new(alloc),
                 subs: List::new(alloc),
             }),

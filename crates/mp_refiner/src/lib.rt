@@ -18,3 +18,6 @@ pub use pattern::Pattern;
 pub use refiner::Refiner;
 pub use rule::{Rule, RuleFault, rule_fault};
 pub use theory::{Theory, TheoryErr};
+
+#[cfg(test)]
+mod tests;
