@@ -1,6 +1,6 @@
 -- Weakening and substitution add no binders to a subterm.
-use Rattle.std.proofs.Common.{◌≡◌, ℕ, ◌+◌, ◌*◌, ◌<◌, ◌≤◌, List, [], ◌∷◌, length, map, get_or, IsTrue, refl, inl, inr, arith}
-use Rattle.std.specs.Prelude.{Bool, true, ◌&&◌, nat_le, All}
+use Rattle.std.proofs.Common.{◌≡◌, ℕ, ◌+◌, ◌*◌, ◌≤◌, List, [], ◌∷◌, length, map, IsTrue, refl, inl, inr, arith}
+use Rattle.std.specs.Prelude.{nat_le, All}
 use Rattle.std.proofs.lemmas.Bool.{cases_lt}
 use Rattle.std.proofs.lemmas.Bool.Decides.{nat_tests}
 use Rattle.std.proofs.lemmas.Grind.{common_steps}
@@ -107,3 +107,5 @@ within_op o ps bs h n few =
 
 pub width_few : (t : Term) (n : ℕ) → IsTrue (few_binders_of t) → widest_of t n ≤ n + 8 * depth_of t
 width_few = each_term IsWithin within_var within_op
+
+pub ruleset width = (width_few)

@@ -3,7 +3,7 @@ use Rattle.std.proofs.Common.{◌≡◌, ℕ, ◌+◌, List, map, sum, nat_lt, r
 use Rattle.std.specs.Prelude.{Bool, true, ◌&&◌, nat_le}
 use Rattle.mp_logic.specs.declared.sym.Sym.{Sym}
 use Rattle.mp_term.specs.declared.term.Param.{Param}
-use Rattle.mp_term.specs.declared.term.Term.{Term, Var, Op, the_lemmas}
+use Rattle.mp_term.specs.declared.term.Term.{Var, Op, the_lemmas}
 use Rattle.mp_term.specs.declared.term.Bound.{Bound, fold-Bound}
 use Rattle.mp_term.specs.Terms.{size_of, size_step, depth_of, depth_step, body_step, greatest, in_scope_of, at_scope, Scoped, scope_step, scope_bound_step, all_true}
 use Rattle.mp_term.specs.Limits.{few_binders_of, few_binders_step, few_binders_bound_step}
