@@ -1,13 +1,15 @@
 #!/usr/bin/env bash
 # How long the tokens of a file of 1 MiB and of one of 2 MiB take; run by hand, at the top of the repository, once
-# the crates are checked. It builds the program in bench/tokens in a copy of the repository, as `rt run` builds it.
+# the crates are checked. It builds the program tokens_main.rt.txt in a copy of the repository, as `rt run` builds it.
+# (A .rt file that belongs to no crate of crates.txt would fail the merge gate.)
 set -eu
 cd "$(dirname "$0")/.."
 copy=$(mktemp -d)
 trap 'rm -rf "$copy"' EXIT
 mkdir "$copy/crates"
 cp -a crates/mp_logic crates/mp_lex "$copy/crates"
-cp -a bench/tokens "$copy/crates/bench_tokens"
+mkdir -p "$copy/crates/bench_tokens/src"
+cp bench/tokens_main.rt.txt "$copy/crates/bench_tokens/src/main.rt"
 printf 'mp_logic:\nmp_lex: mp_logic thiserror\nbench_tokens: mp_lex mp_logic anyhow\n' > "$copy/crates.txt"
 line='rule step_17 : <H>; x: '"'"'A[k{y. '"'"'z; f["a \"b\"", -12]}] >- cut{'"'"'x1} ==> >- 0 # a comment, 72 bytes'
 for size in 1048576 2097152; do
