@@ -78,7 +78,7 @@ IsWithin most (front.Passed len) = (0 < len) × (len ≤ most)
 IsWithin most (front.Token kind len) = (0 < len) × (len ≤ most)
 IsWithin most (front.Bad ahead why) = ahead ≤ most
 
--- the tokens, or the place of the first fault and what it is
+-- the tokens, or the place of the first fault and what it is; it is a function of the text, so each text has exactly one of the two
 abbrev pub Reading : Type 0
 Reading = Result (List Token) (ℕ × LexWhy)
 
