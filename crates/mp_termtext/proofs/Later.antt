@@ -1,13 +1,12 @@
 -- Words by the table of names that is left at the end.
-use Rattle.std.proofs.Common.{◌≡◌, ℕ, List, [], ◌∷◌, ◌++◌, map, drop, Bool, true, false, ◌||◌, Option, Some, None, if◌then◌else◌, refl, sym, ap, subst, ◌∙◌, arith, append-nil, append_assoc, ◌+◌}
+use Rattle.std.proofs.Common.{◌≡◌, ℕ, List, [], ◌∷◌, ◌++◌, map, drop, Bool, true, false, ◌||◌, Option, Some, None, if◌then◌else◌, refl, sym, ap, ◌∙◌, append-nil, ◌+◌}
 use Rattle.mp_logic.specs.declared.sym.Sym.{Sym}
 use Rattle.mp_names.specs.Table.{is_same, is_held, entered, number_of, Extends}
 use Rattle.mp_names.proofs.Tables.{same_self, held_from_number, number_entered, entered_extends, extends_on}
 use Rattle.mp_lex.specs.declared.token.Kind.{Kind}
 use Rattle.mp_lex.specs.declared.token.Kind.TheVariants as kind
-use Rattle.mp_termtext.specs.declared.word.Word.{Word}
 use Rattle.mp_termtext.specs.declared.word.Word.TheVariants as word
-use Rattle.mp_termtext.specs.Words.{Piece, content_of, entered_if, integer_of, keyword_of, mark_of, name_of, names_after, names_with, numbered_of, sym_of, word_in, word_of, words_of}
+use Rattle.mp_termtext.specs.Words.{Piece, content_of, entered_if, keyword_of, name_of, names_after, names_with, numbered_of, sym_of, word_in, word_of, words_of}
 
 -- a name that is held keeps its number where further names are entered
 pub number_of_more : (names more : List (List ℕ)) (name : List ℕ) → is_held names name ≡ true → number_of (names ++ more) name ≡ number_of names name
