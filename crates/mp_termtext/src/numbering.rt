@@ -1,4 +1,4 @@
-ghost use Rattle.std.specs.Prelude.{◌≡◌, ◌+◌, ◌-◌, ◌<◌, ◌≤◌, ◌^◌, length, take, drop, OnOk, IfOk};
+ghost use Rattle.std.specs.Prelude.{◌≡◌, ◌+◌, ◌-◌, ◌<◌, ◌≤◌, ◌^◌, length, map, take, drop, OnOk, IfOk};
 ghost use Rattle.mp_names.specs.Table.{Extends};
 ghost use Rattle.mp_lex.specs.Lex.{text_of};
 ghost use Rattle.mp_lex.specs.Spans.{EachToken, IsSpan, HasItsKind};
@@ -25,6 +25,7 @@ pub fn words(
     requires spans { EachToken (IsSpan source.now) tokens.now }
     requires kinds { EachToken (HasItsKind source.now) tokens.now }
     ensures words { IfOk result (λ words. words ≡ words_of names.old (pieces_of source.now tokens.now)) }
+    ensures by_last_table { IfOk result (λ words. words ≡ map (word_of names.new) (pieces_of source.now tokens.now)) }
     ensures one_each { IfOk result (λ words. length words ≡ length tokens.now) }
     ensures table { OnOk result (names.new ≡ names_after names.old (pieces_of source.now tokens.now)) }
     ensures grown { Extends names.old names.new }
