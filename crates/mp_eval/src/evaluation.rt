@@ -15,7 +15,7 @@ use mp_strategy::{Failure, Kind, Outcome, Problem, Tac, TacId, Work};
 use std::alloc::Global;
 
 /// The outcome of the work: what its strategy gives, with the leaves of a tree taken from left to right.
-/// It takes the stack of one thread, up to some kilobytes for each step on a path.
+/// It recurses once for each level of the strategy and of the trees.
 pub fn evaluate<L: Logic>(
     alloc: Global,
     problem: &Problem<L>,

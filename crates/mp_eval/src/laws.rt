@@ -1,4 +1,4 @@
-ghost use Rattle.mp_strategy.specs.Laws.{EvalIsAllowed, OnlyEvalIsAllowed, TreesAreSound, GoalsStayGood};
+ghost use Rattle.mp_strategy.specs.Laws.{EvalIsAllowed, OnlyEvalIsAllowed, TreesAreSound, ClosedGoalsAreDerivable, GoalsStayGood};
 
 use mp_logic::Logic;
 use mp_strategy::Problem;
@@ -16,6 +16,11 @@ pub fn only_eval_is_allowed<L: Logic>(problem: &Problem<L>)
 /// Each tree that a strategy gives is valid for its goal, and no path of it has more steps than the fuel.
 pub fn trees_are_sound<L: Logic>(problem: &Problem<L>)
     ensures { TreesAreSound (L.step_of problem.now.logic.now) problem.now.justs problem.now.tacs }
+{}
+
+/// Where a strategy gives a tree without open leaves, the goal is derivable.
+pub fn closed_goals_are_derivable<L: Logic>(problem: &Problem<L>)
+    ensures { ClosedGoalsAreDerivable (L.step_of problem.now.logic.now) problem.now.justs problem.now.tacs }
 {}
 
 /// On a good goal a strategy gives trees with good open leaves, and failures at good goals.

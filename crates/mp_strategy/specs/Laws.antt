@@ -1,12 +1,12 @@
 -- What holds of all that strategies give.
-use Rattle.std.specs.Prelude.{◌≡◌, ℕ, ◌+◌, ◌<◌, ◌≤◌, Bool, IsTrue, List, length, ⊤}
+use Rattle.std.specs.Prelude.{◌≡◌, ℕ, ◌+◌, ◌<◌, ◌≤◌, Bool, IsTrue, List, [], length, ⊤}
 use Rattle.mp_logic.specs.declared.tree.Tree.{Tree}
 use Rattle.mp_logic.specs.declared.tree.Tree.TheOpen.{Tree-F}
 use Rattle.mp_logic.specs.declared.tree.Tree.TheOpen as layer
 use Rattle.mp_logic.specs.declared.tree.Tree.TheFolds.{fold-Tree}
 use Rattle.mp_logic.specs.Steps as steps
-use Rattle.mp_logic.specs.Trees.{EachLeaf}
-use Rattle.mp_logic.specs.Valid.{IsValid}
+use Rattle.mp_logic.specs.Trees.{leaves_of, EachLeaf}
+use Rattle.mp_logic.specs.Valid.{IsValid, Derivable}
 use Rattle.mp_strategy.specs.declared.tactic.Tac.{Tac}
 use Rattle.mp_strategy.specs.declared.outcome.Outcome.{Outcome}
 use Rattle.mp_strategy.specs.declared.outcome.Outcome.TheVariants as outcome
@@ -49,3 +49,7 @@ module _ {G J : Type 0} (step : J → G → steps.Outcome G) (justs : List J) wh
   -- a good goal gives good goals
   abbrev pub GoalsStayGood : (G → Bool) → List Tac → Type 0
   GoalsStayGood good tacs = (work : Work G) (o : Outcome G) → IsTrue (good work.goal) → Evals step justs tacs work o → IsGood good o
+
+  -- the goal of a work that gives a tree without open leaves is derivable
+  abbrev pub ClosedGoalsAreDerivable : List Tac → Type 0
+  ClosedGoalsAreDerivable tacs = (work : Work G) (t : Tree G) → Evals step justs tacs work (outcome.Tree t) → leaves_of t 0 ≡ [] → Derivable step work.goal

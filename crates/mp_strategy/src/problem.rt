@@ -9,8 +9,11 @@ use mp_logic::{List, Logic};
 /// strategy is entry 0.
 #[derive(Drop)]
 pub struct Problem<'l, L: Logic> {
+    /// Where the steps are made.
     pub logic: &'l L,
+    /// What the steps are tried by; a strategy names them by their places.
     pub justs: List<L::Just>,
+    /// The strategies; each names its parts by their places.
     pub tacs: List<Tac>,
     pub ghost fits: { IsTrue (fits_of (length justs) tacs) },
     pub ghost all_allowed: { IsTrue (list_all (L.allowed logic.now) justs) },

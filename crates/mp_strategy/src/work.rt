@@ -14,6 +14,7 @@ pub struct Work<G> {
     pub left: u32,
     /// The greatest number of steps on a path.
     pub fuel: u32,
+    /// What it is tried on.
     pub goal: G,
 }
 
