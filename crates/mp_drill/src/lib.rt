@@ -10,7 +10,3 @@ mod workers;
 pub use drilling::drill;
 pub use ranges::in_range;
 pub use schedule::{Event, Reply};
-
-
-#[cfg(test)]
-mod tests;
