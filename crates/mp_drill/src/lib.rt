@@ -10,3 +10,6 @@ mod workers;
 pub use drilling::drill;
 pub use ranges::in_range;
 pub use schedule::{Event, Reply};
+
+#[cfg(test)]
+mod tests;
