@@ -1,0 +1,7 @@
+pub mod Allowed
+pub mod Goods
+pub mod Only
+pub mod Sound
+pub mod Steps
+pub mod Tables
+pub mod Unfolds

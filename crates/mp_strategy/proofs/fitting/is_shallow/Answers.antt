@@ -1,0 +1,30 @@
+use Rattle.std.proofs.Common.{◌≡◌, ◌+◌, ◌-◌, ◌<◌, length, refl, sym, subst, arith}
+use Rattle.mp_strategy.specs.declared.tactic.Tac.TheVariants as tac
+use Rattle.mp_strategy.proofs.Tables.{Found, found_start, found_next, too_deep, parts_at, parts_within}
+use Rattle.mp_strategy.proofs.fitting.is_shallow.Goals as goal
+
+pub loop-behind-init : goal.loop-behind-init
+loop-behind-init c = found_start c.args.entries.now (length c.args.entries.now - 0) 4096 (omega arith) c.requires.few
+
+pub depth_by-depth-requires-clause-parts : goal.depth_by-depth-requires-clause-parts
+depth_by-depth-requires-clause-parts c =
+    let i = length c.args.entries.now - 1 - c.loop-behind.behind in
+    let lt : i < length c.args.entries.now = omega (arith, c.loop-behind-test.true) in
+    parts_within i (length c.args.entries.now) 4096 _ c.requires.few (parts_at c.args.justs c.args.entries.now i _ tac.Id c.requires.fit lt refl)
+
+pub returns-then-depth-gt64 : goal.returns-then-depth-gt64
+returns-then-depth-gt64 c =
+    let i = length c.args.entries.now - 1 - c.loop-behind.behind in
+    let lt : i < length c.args.entries.now = omega (arith, c.loop-behind-test.true) in
+    let here : length c.args.entries.now - c.loop-behind.behind ≡ i + 1 = omega (arith, c.loop-behind-test.true) in
+    let found = subst (λ n. Found c.args.entries.now n c.loop-behind.depths) here c.loop-behind.invariant in
+    sym (too_deep c.args.entries.now i c.depth_by-depth.result _ tac.Id c.loop-behind.depths found (parts_at c.args.justs c.args.entries.now i _ tac.Id c.requires.fit lt refl) lt refl c.depth_by-depth.ensures c.if-depth-gt64.true)
+
+pub loop-behind-preserved : goal.loop-behind-preserved
+loop-behind-preserved c =
+    let i = length c.args.entries.now - 1 - c.loop-behind.behind in
+    let lt : i < length c.args.entries.now = omega (arith, c.loop-behind-test.true) in
+    let here : length c.args.entries.now - c.loop-behind.behind ≡ i + 1 = omega (arith, c.loop-behind-test.true) in
+    let next : i ≡ length c.args.entries.now - (c.loop-behind.behind + 1) = omega (arith, c.loop-behind-test.true) in
+    let found = subst (λ n. Found c.args.entries.now n c.loop-behind.depths) here c.loop-behind.invariant in
+    found_next c.args.entries.now i c.depth_by-depth.result _ tac.Id c.loop-behind.depths found (parts_at c.args.justs c.args.entries.now i _ tac.Id c.requires.fit lt refl) lt refl c.depth_by-depth.ensures c.if-depth-gt64.false _ next

@@ -1,0 +1,53 @@
+-- What holds of all that strategies give.
+use Rattle.std.specs.Prelude.{◌≡◌, ℕ, ◌+◌, ◌<◌, ◌≤◌, Bool, IsTrue, List, length, ⊤}
+use Rattle.std.specs.List.{list_all}
+use Rattle.mp_logic.specs.declared.tree.Tree.{Tree}
+use Rattle.mp_logic.specs.declared.tree.Tree.TheOpen.{Tree-F}
+use Rattle.mp_logic.specs.declared.tree.Tree.TheOpen as layer
+use Rattle.mp_logic.specs.declared.tree.Tree.TheFolds.{fold-Tree}
+use Rattle.mp_logic.specs.Steps as steps
+use Rattle.mp_logic.specs.Trees.{EachLeaf}
+use Rattle.mp_logic.specs.Valid.{IsValid}
+use Rattle.mp_strategy.specs.declared.tactic.Tac.{Tac}
+use Rattle.mp_strategy.specs.declared.outcome.Outcome.{Outcome}
+use Rattle.mp_strategy.specs.declared.outcome.Outcome.TheVariants as outcome
+use Rattle.mp_strategy.specs.declared.work.Work.{Work}
+use Rattle.mp_strategy.specs.Fits.{greatest, fits_of}
+use Rattle.mp_strategy.specs.Strategies.{Evals}
+use Rattle.mp_strategy.specs.Evaluation.{eval}
+
+abbrev pub depth_step : {G : Type 0} → Tree-F G ℕ → ℕ
+depth_step (layer.Leaf g) = 0
+depth_step (layer.Step g just kids) = 1 + greatest kids
+
+-- the greatest number of steps on a path of the tree
+abbrev pub depth_of : {G : Type 0} → Tree G → ℕ
+depth_of {G} = fold-Tree G ℕ depth_step
+
+-- the open leaves of a tree are good goals, and so is the goal of a failure
+abbrev pub IsGood : {G : Type 0} → (G → Bool) → Outcome G → Type 0
+IsGood good (outcome.Tree t) = EachLeaf (λ g. IsTrue (good g)) t
+IsGood good (outcome.Failure e) = IsTrue (good e.goal)
+
+module _ {G J : Type 0} (step : J → G → steps.Outcome G) (justs : List J) where
+  -- a tree is valid for the goal, and no path of it has more steps than the fuel
+  abbrev pub IsSound : ℕ → G → Outcome G → Type 0
+  IsSound f g (outcome.Tree t) = IsValid step justs t g × (depth_of t ≤ f)
+  IsSound f g (outcome.Failure e) = ⊤
+
+  -- evaluation gives what the relation allows
+  abbrev pub EvalIsAllowed : List Tac → Type 0
+  EvalIsAllowed tacs = (work : Work G) → IsTrue (fits_of (length justs) tacs) → work.tac.0 < length tacs → Evals step justs tacs work (eval step justs tacs work)
+
+  -- the relation allows nothing else, where there is no race: so far there is none
+  abbrev pub OnlyEvalIsAllowed : List Tac → Type 0
+  OnlyEvalIsAllowed tacs = (work : Work G) (o : Outcome G) → Evals step justs tacs work o → o ≡ eval step justs tacs work
+
+  -- each tree that the relation allows is valid for the work's goal, with no path of more steps than the fuel
+  abbrev pub TreesAreSound : List Tac → Type 0
+  TreesAreSound tacs = (work : Work G) (o : Outcome G) → Evals step justs tacs work o → IsSound work.fuel work.goal o
+
+  -- a good goal gives good goals, where the justifications are allowed
+  abbrev pub GoalsStayGood : (G → Bool) → (J → Bool) → List Tac → Type 0
+  GoalsStayGood good allowed tacs = (work : Work G) (o : Outcome G)
+      → IsTrue (list_all allowed justs) → IsTrue (good work.goal) → Evals step justs tacs work o → IsGood good o

@@ -1,0 +1,5 @@
+pub mod Evaluation
+pub mod Fits
+pub mod Laws
+pub mod Strategies
+pub mod Works

@@ -1,0 +1,16 @@
+-- A strategy that is tried on a goal.
+use Rattle.std.specs.Prelude.{ℕ, ◌<◌, ◌≤◌, Bool, IsTrue, List, length, slice_get}
+use Rattle.mp_strategy.specs.declared.tactic.Tac.{Tac}
+use Rattle.mp_strategy.specs.declared.tactic.TacId.{TacId}
+use Rattle.mp_strategy.specs.declared.work.Work.{Work}
+use Rattle.mp_strategy.specs.Strategies.{left_of}
+
+-- the work of a strategy on a goal
+abbrev pub work_of : {G : Type 0} → List Tac → TacId → ℕ → G → Work G
+work_of tacs t f g = record { tac = t; left = left_of (slice_get tacs t.0); fuel = f; goal = g }
+
+-- what each call asks of a work
+pub record IsWork {G : Type 0} (is_good : G → Bool) (tacs : List Tac) (work : Work G) : Type 0 where
+  pub tac : work.tac.0 < length tacs
+  pub fuel : work.fuel ≤ 400
+  pub good : IsTrue (is_good work.goal)

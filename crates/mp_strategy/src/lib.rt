@@ -1,0 +1,14 @@
+//! Strategies: their table, works on it, and what they give.
+#![tactic(auto)]
+
+mod fitting;
+mod outcome;
+mod problem;
+mod tactic;
+mod work;
+
+pub use fitting::fits;
+pub use outcome::{Failure, Kind, Outcome, copy_outcome};
+pub use problem::Problem;
+pub use tactic::{Tac, TacId};
+pub use work::{Work, copy_work};
