@@ -1,0 +1,4 @@
+pub mod Fronts
+pub mod Passes
+pub mod Runs
+pub mod Strings
