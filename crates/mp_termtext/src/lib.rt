@@ -1,6 +1,9 @@
 //! Terms and sequents as texts, and the words that all readers go over.
 #![tactic(auto)]
 
+mod bytes;
+mod print;
 mod word;
 
+pub use print::{print_sequent, print_term, push_sequent, push_term};
 pub use word::{Keyword, Mark, Word};

@@ -1,0 +1,26 @@
+use crate::Names;
+use mp_logic::Sym;
+
+#[test]
+fn names_keep_their_numbers(rt: HostRuntime) {
+    let alloc = rt.alloc();
+    let mut names = Names::new(alloc);
+    for (name, want) in [
+        (b"nat".as_slice(), 0u32),
+        (b"all".as_slice(), 1),
+        (b"nat".as_slice(), 0),
+        (b"x1".as_slice(), 2),
+        (b"all".as_slice(), 1),
+    ] {
+        assert!(rt; names.len() < 4);
+        let Ok(sym) = names.number(alloc, name) else {
+            panic!(rt; "no memory");
+        };
+        assert_eq!(rt; sym, Sym(want));
+    }
+    assert_eq!(rt; names.len(), 3);
+    assert_eq!(rt; names.find(b"x1"), Some(Sym(2)));
+    assert_eq!(rt; names.find(b"x"), None);
+    assert_eq!(rt; names.text(Sym(1)), b"all".as_slice());
+    assert_eq!(rt; names.text(Sym(3)), b"".as_slice());
+}
