@@ -1,6 +1,7 @@
 //! The readers of theories, scripts and schedules in their first, thin form.
 #![tactic(auto)]
 
+mod chain;
 mod laws;
 mod parts;
 mod pattern;
