@@ -47,7 +47,7 @@ named kind quote len = if nat_le len 64 then front.Token kind (quote + len) else
 checked_name : (kind : Kind) (bytes : List ℕ) (n quote len : ℕ) → is_text kind (take n bytes) ≡ nat_le len 64 → quote + len ≡ n → named kind quote len ≡ checked kind LongName n bytes
 checked_name kind bytes n quote len e f = ap (λ k. if nat_le len 64 then front.Token kind k else front.Bad 0 LongName) f ∙ ap (λ t. if t then front.Token kind n else front.Bad 0 LongName) (sym e)
 
-word_run : (b : ℕ) (bs : List ℕ) → is_word b ≡ true → prefix_len is_word (b ∷ bs) ≡ 1 + prefix_len is_word bs
+pub word_run : (b : ℕ) (bs : List ℕ) → is_word b ≡ true → prefix_len is_word (b ∷ bs) ≡ 1 + prefix_len is_word bs
 word_run b bs e = yes (is_word b) (1 + prefix_len is_word bs) 0 e
 
 pub small_checked : (b : ℕ) (bs : List ℕ) → is_small b ≡ true → named Small 0 (1 + prefix_len is_word bs) ≡ checked Small LongName (prefix_len is_word (b ∷ bs)) (b ∷ bs)

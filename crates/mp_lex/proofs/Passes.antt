@@ -10,7 +10,7 @@ use Rattle.mp_lex.specs.declared.token.LexWhy.TheVariants.{TooNested}
 use Rattle.mp_lex.specs.declared.front.Front.{Front}
 use Rattle.mp_lex.specs.declared.front.Front.TheVariants as front
 use Rattle.mp_lex.specs.Bytes.{is_closing, is_opening}
-use Rattle.mp_lex.specs.Lex.{Reading, depth_after, front_of, go_on, lex_from, with_front}
+use Rattle.mp_lex.specs.Lex.{Reading, depth_after, front_of, go_on, lex, lex_from, with_front}
 
 -- the bytes of what was found are passed over
 pub skipped : (n depth at : ℕ) (bs : List ℕ) → n ≤ length bs → lex_from n depth at bs ≡ lex_from 0 depth (at + n) (drop n bs)
@@ -78,3 +78,7 @@ opened false false depth few shallow = few
 -- no more than 250 brackets are open
 pub depth_kept : (depth b : ℕ) → depth ≤ 250 → (is_opening b && nat_le 250 depth) ≡ false → depth_after depth b ≤ 250
 depth_kept depth b few shallow = opened (is_opening b) (is_closing b) depth few shallow
+
+-- the tokens so far are all where the text is at its end
+pub all_read : (source : List ℕ) (at depth : ℕ) (ts : List Token) → with_front ts (lex_from 0 depth at (drop at source)) ≡ lex source → length source ≤ at → lex source ≡ Ok ts
+all_read source at depth ts read most = sym read ∙ at_end source at depth ts most

@@ -1,6 +1,7 @@
-ghost use Rattle.std.specs.Prelude.{◌≡◌, ◌≤◌, drop, length, nat_le, ◌&&◌};
+ghost use Rattle.std.specs.Prelude.{◌≡◌, ◌≤◌, drop, length, nat_le, ◌&&◌, IfOk};
 ghost use Rattle.mp_lex.specs.Bytes.{is_opening};
 ghost use Rattle.mp_lex.specs.Lex.{lex, Gives, depth_after};
+ghost use Rattle.mp_lex.specs.Spans.{EachToken, IsSpan, HasItsKind, IsLongest, InOrder, AreSeparated};
 
 use crate::byte::{closing, opening};
 use crate::front::{Front, look};
@@ -14,7 +15,13 @@ const DEEPEST: u64 = 250;
 /// The tokens of the text in order, or its first lexical fault. It reads the text once, and takes memory
 /// for the list alone.
 pub fn tokens(alloc: Global, source: &[u8]) -> Result<List<Token>, LexFail>
-    ensures { Gives (lex source.now) result }
+    ensures reads { Gives (lex source.now) result }
+    ensures spans { IfOk result (EachToken (IsSpan source.now)) }
+    ensures order { IfOk result InOrder }
+    ensures kinds { IfOk result (EachToken (HasItsKind source.now)) }
+    ensures longest { IfOk result (EachToken (IsLongest source.now)) }
+    ensures between { IfOk result (AreSeparated source.now 0) }
+    ensures few { IfOk result (λ ts. length ts ≤ length source.now) }
 {
     let mut tokens = List::new(alloc);
     let mut at = 0usize;

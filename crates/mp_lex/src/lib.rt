@@ -4,6 +4,8 @@
 mod byte;
 mod front;
 mod lexer;
+#[cfg(test)]
+mod tests;
 mod token;
 
 pub use lexer::tokens;

@@ -3,7 +3,8 @@ use Rattle.std.specs.Prelude.{ℕ, nat_le, ◌&&◌}
 use Rattle.mp_lex.specs.declared.token.Token.{Token}
 use Rattle.mp_lex.specs.Bytes.{is_opening}
 use Rattle.mp_lex.specs.Lex.{depth_after, front_of, lex_from, with_front}
-use Rattle.mp_lex.proofs.Passes.{passed_step, token_step, front_push, depth_kept}
+use Rattle.mp_lex.proofs.Passes.{passed_step, token_step, front_push, depth_kept, all_read}
+use Rattle.mp_lex.proofs.Laws.{all_longest, between, few, kinds, order, spans}
 use Rattle.mp_lex.proofs.lexer.tokens.Goals as goal
 
 pub loop-at-preserved-in-Passed : goal.loop-at-preserved-in-Passed
@@ -43,3 +44,33 @@ loop-at-preserved c =
           ∙ ap (with_front c.loop-at.tokens) (sym (token_step source at depth lt kind len (c.in-Token.ensures.value ∙ ap front_of c.behind.ensures) shallow c.in-Token.ensures.within.0 m))
           ∙ c.loop-at.invariant.read;
     }
+
+pub returns-clause-spans : goal.returns-clause-spans
+returns-clause-spans c =
+    let l = c.loop-at in
+    spans c.args.source.now l.tokens (all_read c.args.source.now l.at l.depth l.tokens l.invariant.read (omega (arith, c.loop-at-test.false)))
+
+pub returns-clause-order : goal.returns-clause-order
+returns-clause-order c =
+    let l = c.loop-at in
+    order c.args.source.now l.tokens (all_read c.args.source.now l.at l.depth l.tokens l.invariant.read (omega (arith, c.loop-at-test.false)))
+
+pub returns-clause-kinds : goal.returns-clause-kinds
+returns-clause-kinds c =
+    let l = c.loop-at in
+    kinds c.args.source.now l.tokens (all_read c.args.source.now l.at l.depth l.tokens l.invariant.read (omega (arith, c.loop-at-test.false)))
+
+pub returns-clause-longest : goal.returns-clause-longest
+returns-clause-longest c =
+    let l = c.loop-at in
+    all_longest c.args.source.now l.tokens (all_read c.args.source.now l.at l.depth l.tokens l.invariant.read (omega (arith, c.loop-at-test.false)))
+
+pub returns-clause-between : goal.returns-clause-between
+returns-clause-between c =
+    let l = c.loop-at in
+    between c.args.source.now l.tokens (all_read c.args.source.now l.at l.depth l.tokens l.invariant.read (omega (arith, c.loop-at-test.false)))
+
+pub returns-clause-few : goal.returns-clause-few
+returns-clause-few c =
+    let l = c.loop-at in
+    few c.args.source.now l.tokens (all_read c.args.source.now l.at l.depth l.tokens l.invariant.read (omega (arith, c.loop-at-test.false)))
