@@ -31,6 +31,7 @@ pub enum StepErr {
 /// it, strategies and job trees among them, is proved for every logic.
 pub trait Logic {
     type Goal: Drop + Send + Sync;
+
     type Just: Drop + Send + Sync;
 
     /// Which goals a step may be tried on.

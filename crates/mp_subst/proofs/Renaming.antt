@@ -1,6 +1,6 @@
 -- Renaming undoes the substitution of distinct variables.
-use Rattle.std.proofs.Common.{◌≡◌, ℕ, ◌+◌, ◌-◌, ◌<◌, ◌≤◌, List, [], ◌∷◌, ◌++◌, length, map, get_or, zero, suc, IsTrue, Option, Some, None, nat_eq, nat_lt, if◌then◌else◌, refl, sym, ap, subst, ◌∙◌, inl, inr, ◌⊎◌, eq-eqb, rules, arith}
-use Rattle.std.specs.Prelude.{position, Result, Ok, Err, IfOk, All, Bool, true, false, eqb, ◌||◌}
+use Rattle.std.proofs.Common.{◌≡◌, ℕ, ◌+◌, ◌-◌, ◌<◌, ◌≤◌, List, [], ◌∷◌, length, map, get_or, suc, IsTrue, Option, Some, None, nat_eq, refl, sym, inl, inr, ◌⊎◌, eq-eqb, arith}
+use Rattle.std.specs.Prelude.{position, Result, Ok, Err, IfOk, All, Bool, true, false, eqb}
 use Rattle.std.specs.List.{list_any}
 use Rattle.std.proofs.lemmas.Map.Steps.{length-le_from_distinct_below}
 use Rattle.mp_logic.specs.declared.memory.NoMemory.{NoMemory}
@@ -15,40 +15,14 @@ use Rattle.std.proofs.lemmas.Map.Keys.{apart_from_distinct}
 use Rattle.std.specs.List.{IsDistinct}
 use Rattle.mp_logic.specs.declared.sym.Sym.{Sym}
 use Rattle.mp_term.specs.declared.term.Param.{Param}
-use Rattle.mp_term.specs.declared.term.Term.{Term, Var, Op, the_lemmas}
-use Rattle.mp_term.specs.declared.term.Bound.{Bound, fold-Bound}
+use Rattle.mp_term.specs.declared.term.Term.{Term, Var, Op}
+use Rattle.mp_term.specs.declared.term.Bound.{Bound}
 use Rattle.mp_term.specs.Induction.{OfEachBody, each_term}
-use Rattle.mp_term.specs.Terms.{in_scope_of, at_scope, Scoped, scope_step, scope_bound_step}
-use Rattle.mp_subst.specs.Subst.{weak, variables, under, sub_of, sub_each, all_some, unrenamed, unrenamed_bound, IsRenaming}
-use Rattle.mp_subst.proofs.WeakLaws.{weak-Var}
-use Rattle.mp_subst.proofs.SubLaws.{under-under, under-low, under-high, under-none, sub_bound_of, sub-Op, scoped_bound}
-
-pub in_scope-Var : (level n : ℕ) → in_scope_of (Var level) n ≡ nat_lt level n
-in_scope-Var level n = search (rules, the_lemmas)
-
-pub in_scope-Op : (o : Sym) (ps : List Param) (subs : List Bound) (n : ℕ) → in_scope_of (Op o ps subs) n ≡ at_scope n (map scoped_bound subs)
-in_scope-Op o ps subs n = search (rules, the_lemmas)
-
-pub scoped_bound-is : (b : Bound) (n : ℕ) → scoped_bound b n ≡ in_scope_of b.body (n + b.binders)
-scoped_bound-is b n = search (rules, the_lemmas)
-
-pub sub-Var : (i : ℕ) (s : List Term) (m : ℕ) → sub_of (Var i) s m ≡ get_or s i (Var i)
-sub-Var i s m = search (rules, the_lemmas)
-
-pub sub_bound-is : (b : Bound) (s : List Term) (m : ℕ) → sub_bound_of b s m ≡ record { binders = b.binders; body = sub_of b.body (under s m b.binders) (m + b.binders) }
-sub_bound-is b s m = search (rules, the_lemmas)
-
-module _ (levels : List ℕ) (n : ℕ) where
-  pub unrenamed-Var : (level : ℕ) → unrenamed levels n (Var level)
-      ≡ (if nat_lt level n then option_map Var (position (λ x. nat_eq x level) levels) else Some (Var (level - n + length levels)))
-  unrenamed-Var level = search (rules, the_lemmas)
-
-  pub unrenamed-Op : (o : Sym) (ps : List Param) (subs : List Bound) → unrenamed levels n (Op o ps subs) ≡ option_map (Op o ps) (all_some (map (unrenamed_bound levels n) subs))
-  unrenamed-Op o ps subs = search (rules, the_lemmas)
-
-  pub unrenamed_bound-is : (b : Bound) → unrenamed_bound levels n b
-      ≡ option_map (λ (body : Term). record { binders = b.binders; body = body }) (unrenamed levels n b.body)
-  unrenamed_bound-is b = search (rules, the_lemmas)
+use Rattle.mp_term.specs.Terms.{in_scope_of, at_scope}
+use Rattle.mp_term.proofs.Layers.{scoped_bound, in_scope-Var, in_scope-Op, scoped_bound-is}
+use Rattle.mp_subst.specs.Subst.{weak, under, sub_of, sub_bound_of, sub_each, all_some, unrenamed, unrenamed_bound, IsRenaming}
+use Rattle.mp_subst.proofs.Layers.{weak-Var, sub-Var, sub-Op, sub_bound-is, unrenamed-Var, unrenamed-Op, unrenamed_bound-is, with_first, all_some-cons}
+use Rattle.mp_subst.proofs.SubLaws.{under-under, under-low, under-high, under-none}
 
 -- the place of an item in a list of distinct numbers
 position-at : (levels : List ℕ) (i : ℕ) → IsDistinct nat_eq levels → i < length levels →
@@ -156,16 +130,6 @@ module _ (levels : List ℕ) (n : ℕ) (distinct : IsDistinct nat_eq levels) (be
   abbrev Restores : List Bound → ℕ → List Bound → Type 0
   Restores bs k made = (sub_each (map sub_bound_of made) (terms k) (n + k) ≡ bs) × IsTrue (at_scope (length levels + k) (map scoped_bound made))
 
-  -- one made bound subterm before the others
-  with_first : Option Bound → Option (List Bound) → Option (List Bound)
-  with_first None others = None
-  with_first (Some b) others = option_map (λ rest. b ∷ rest) others
-
-  all_some-cons : (x : Option Bound) (xs : List (Option Bound)) → all_some (x ∷ xs) ≡ with_first x (all_some xs)
-  unfolding with_first
-  all_some-cons None xs = refl
-  all_some-cons (Some b) xs = refl
-
   joined : (b : Bound) (bs : List Bound) (k : ℕ) (u : Term) (rest : List Bound) →
       (sub_of u (terms (k + b.binders)) (n + (k + b.binders)) ≡ b.body) × IsTrue (in_scope_of u (length levels + (k + b.binders))) →
       Restores bs k rest → Restores (b ∷ bs) k (record { binders = b.binders; body = u } ∷ rest)
@@ -181,7 +145,6 @@ module _ (levels : List ℕ) (n : ℕ) (distinct : IsDistinct nat_eq levels) (be
       ((u : Term) → body ≡ Some u → (sub_of u (terms (k + b.binders)) (n + (k + b.binders)) ≡ b.body) × IsTrue (in_scope_of u (length levels + (k + b.binders)))) →
       ((rest : List Bound) → others ≡ Some rest → Restores bs k rest) →
       with_first (option_map (λ (t : Term). record { binders = b.binders; body = t }) body) others ≡ Some made → Restores (b ∷ bs) k made
-  unfolding with_first
   both b bs k made None others hb ho is = absurd (cc)
   both b bs k made (Some u) None hb ho is = absurd (cc)
   both b bs k made (Some u) (Some rest) hb ho is =
@@ -230,7 +193,13 @@ renaming_of levels n t (Some u) distinct below scoped is =
     let p : length levels + 0 ≡ length levels = omega arith in
     let q : n + 0 ≡ n = omega arith in
     let both = rw (under-none, q, p) at (sub-unrenamed levels n distinct below t 0 u (rw q scoped) (sym is)) in
-    (both.1, both.0)
+    (both.1, both.0, only) where
+  only : (v : Term) → IsTrue (in_scope_of v (length levels)) → sub_of v (map Var levels) n ≡ t → v ≡ u
+  only v inner e =
+      let p' : length levels + 0 ≡ length levels = omega arith in
+      let q' : n + 0 ≡ n = omega arith in
+      let undone = rw (under-none, q', e) at (unrenamed-sub levels n distinct below v 0 (rw p' inner)) in
+      cc
 
 cases : (b : Bool) → (b ≡ true) ⊎ (b ≡ false)
 cases true = inl refl

@@ -3,18 +3,15 @@ use Rattle.std.proofs.Common.{◌≡◌, ℕ, ◌+◌, ◌-◌, ◌<◌, ◌≤�
 use Rattle.std.proofs.Math.ListN.{drop_of_length-le}
 use Rattle.std.proofs.Math.Seq.{drop-cons}
 use Rattle.std.proofs.lemmas.Bool.Decides.{nat_tests}
-use Rattle.std.proofs.lemmas.List.{map-append, get_or-map, get_or-append_right, get_or_append_left}
+use Rattle.std.proofs.lemmas.List.{map-append, get_or-map, get_or-append_right, get_or_append_left, length-map, length-append}
 use Rattle.std.proofs.lemmas.Grind.{common_steps}
-use Rattle.mp_logic.specs.declared.sym.Sym.{Sym}
-use Rattle.mp_term.specs.declared.term.Param.{Param}
-use Rattle.mp_term.specs.declared.term.Term.{Term, Var, Op, the_lemmas}
-use Rattle.mp_term.specs.declared.term.Bound.{Bound, fold-Bound}
-use Rattle.mp_term.specs.Terms.{in_scope_of, at_scope, Scoped, scope_step, scope_bound_step}
-use Rattle.mp_subst.specs.Subst.{weak, variables, under, sub_of, sub_step, sub_bound_step, sub_each, Replacing, widest_in, widest_of, widest_at, widest_step, widest_bound_step, Widths, AreInScope}
-use Rattle.mp_subst.proofs.WeakLaws.{weak-Var, weak-weak, weak-none}
-
-abbrev pub sub_bound_of : Bound → Replacing Bound
-sub_bound_of = fold-Bound (Replacing Term) (Replacing Bound) sub_step sub_bound_step
+use Rattle.mp_term.specs.declared.term.Term.{Term, Var, the_lemmas}
+use Rattle.mp_term.specs.declared.term.Bound.{Bound}
+use Rattle.mp_term.specs.Terms.{in_scope_of, at_scope}
+use Rattle.mp_term.proofs.Layers.{scoped_bound}
+use Rattle.mp_subst.specs.Subst.{weak, variables, under, sub_of, sub_bound_of, sub_each, widest_in, widest_of, widest_at, width_bound, AreInScope}
+use Rattle.mp_subst.proofs.Layers.{weak-Var}
+use Rattle.mp_subst.proofs.WeakLaws.{weak-weak, weak-none}
 
 pub length-variables : (m k : ℕ) → length (variables m k) ≡ k
 length-variables m zero = refl
@@ -28,7 +25,7 @@ variables-append m (suc k) j =
     rw (e1, e2) (ap (λ vs. Var m ∷ vs) (variables-append (suc m) k j))
 
 -- variables below n stay
-map-weak-variables : (n j i k : ℕ) → i + k ≤ n → map (weak n j) (variables i k) ≡ variables i k
+pub map-weak-variables : (n j i k : ℕ) → i + k ≤ n → map (weak n j) (variables i k) ≡ variables i k
 map-weak-variables n j i zero h = refl
 map-weak-variables n j i (suc k) h =
     let ih = map-weak-variables n j (suc i) k (omega arith) in
@@ -79,6 +76,10 @@ sub_bound_within b s m n scope h =
     = search (rules, the_lemmas) in
     e4 ∙ rw (e3, e1, e2) refl
 
+pub length-under : (s : List Term) (m k : ℕ) → length (under s m k) ≡ length s + k
+unfolding under
+length-under s m k = simp (length-append, length-map, length-variables) refl
+
 pub widest_in-ge : (m : ℕ) (ts : List Term) → m ≤ widest_in m ts
 unfolding widest_in
 widest_in-ge m [] = omega arith
@@ -105,20 +106,9 @@ pub ruleset reads = (under-low, under-high, widest_in-ge, widest_in-at, AreInSco
 
 pub ruleset none_under = (under-none)
 
--- one level of a substitution
-pub sub-Op : (t : Term) (o : Sym) (ps : List Param) (subs : List Bound) (s : List Term) (m : ℕ) → t ≡ Op o ps subs →
-    sub_of t s m ≡ Op o ps (sub_each (map sub_bound_of subs) s m)
-sub-Op t o ps subs s m e = search (rules, the_lemmas)
-
 -- the list from i on begins with the item at i
 pub drop-at : {X : Type 0} (xs : List X) (i : ℕ) (x : X) → i < length xs → x ≡ get_or xs i x → drop i xs ≡ x ∷ drop (i + 1) xs
 drop-at xs i x h is = rw (add-one, drop-cons xs i x h) (ap (λ y. y ∷ drop (suc i) xs) (sym is))
-
-abbrev pub scoped_bound : Bound → Scoped
-scoped_bound = fold-Bound Scoped Scoped scope_step scope_bound_step
-
-abbrev pub width_bound : Bound → Widths
-width_bound = fold-Bound Widths Widths widest_step widest_bound_step
 
 -- what the loop over the bound subterms keeps
 pub record Replaced (items made : List Bound) (i scope room : ℕ) (terms : List Term) (inner : ℕ) : Type 0 where

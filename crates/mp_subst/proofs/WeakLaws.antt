@@ -1,21 +1,13 @@
 -- Laws of weakening.
-use Rattle.std.proofs.Common.{◌≡◌, ℕ, ◌+◌, List, [], ◌∷◌, map, nat_lt, if◌then◌else◌, refl, ap, rules, arith}
+use Rattle.std.proofs.Common.{◌≡◌, ℕ, ◌+◌, List, [], ◌∷◌, map, refl, ap, arith}
 use Rattle.std.proofs.lemmas.Bool.Decides.{nat_tests}
 use Rattle.mp_logic.specs.declared.sym.Sym.{Sym}
 use Rattle.mp_term.specs.declared.term.Param.{Param}
-use Rattle.mp_term.specs.declared.term.Term.{Term, Var, Op, the_lemmas}
+use Rattle.mp_term.specs.declared.term.Term.{Term, Var, Op}
 use Rattle.mp_term.specs.declared.term.Bound.{Bound}
 use Rattle.mp_term.specs.Induction.{OfEachBody, each_term}
 use Rattle.mp_subst.specs.Subst.{weak, weak_bound}
-
-pub weak-Var : (n k level : ℕ) → weak n k (Var level) ≡ Var (if nat_lt level n then level else level + k)
-weak-Var n k level = search (rules, the_lemmas)
-
-pub weak-Op : (n k : ℕ) (o : Sym) (ps : List Param) (subs : List Bound) → weak n k (Op o ps subs) ≡ Op o ps (map (weak_bound n k) subs)
-weak-Op n k o ps subs = search (rules, the_lemmas)
-
-pub weak_bound-is : (n k : ℕ) (b : Bound) → weak_bound n k b ≡ record { binders = b.binders; body = weak n k b.body }
-weak_bound-is n k b = search (rules, the_lemmas)
+use Rattle.mp_subst.proofs.Layers.{weak-Var, weak-Op, weak_bound-is}
 
 -- to weaken twice at one place is to weaken once by the sum
 module _ (m k j : ℕ) where
@@ -35,6 +27,25 @@ module _ (m k j : ℕ) where
   pub weak-weak : (t : Term) → weak (m + k) j (weak m k t) ≡ weak m (k + j) t
   weak-weak = each_term IsJoined joined_var joined_op
 
+-- the two places need not differ: what was moved stays at or above the first
+module _ (m j k : ℕ) where
+  abbrev IsStacked : Term → Type 0
+  IsStacked t = weak m k (weak m j t) ≡ weak m (j + k) t
+
+  stacked_bounds : (bs : List Bound) → OfEachBody IsStacked bs → map (weak_bound m k) (map (weak_bound m j) bs) ≡ map (weak_bound m (j + k)) bs
+  stacked_bounds [] h = refl
+  stacked_bounds (b ∷ bs) h = simp weak_bound-is (grind (arith, h.0, stacked_bounds bs h.1))
+
+  stacked_var : (level : ℕ) → IsStacked (Var level)
+  stacked_var level = simp weak-Var (grind (arith, nat_tests))
+
+  stacked_op : (o : Sym) (ps : List Param) (subs : List Bound) → OfEachBody IsStacked subs → IsStacked (Op o ps subs)
+  stacked_op o ps subs h = simp weak-Op (ap (Op o ps) (stacked_bounds subs h))
+
+  pub weak-stacked : (t : Term) → weak m k (weak m j t) ≡ weak m (j + k) t
+  weak-stacked = each_term IsStacked stacked_var stacked_op
+
+-- to weaken by nothing changes nothing
 module _ (m : ℕ) where
   abbrev IsUnchanged : Term → Type 0
   IsUnchanged t = weak m 0 t ≡ t

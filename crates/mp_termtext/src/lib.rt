@@ -2,8 +2,14 @@
 #![tactic(auto)]
 
 mod bytes;
+mod numbering;
 mod print;
+mod spelling;
 mod word;
 
+pub use numbering::words;
 pub use print::{print_sequent, print_term, push_sequent, push_term};
 pub use word::{Keyword, Mark, Word};
+
+#[cfg(test)]
+mod tests;

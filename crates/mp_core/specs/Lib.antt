@@ -1,0 +1,5 @@
+pub mod Cores
+pub mod Events
+pub mod Machine
+pub mod Nodes
+pub mod Sound

@@ -1,0 +1,74 @@
+-- What a shelf tells, and what the shelf in memory and the files of the system do.
+use Rattle.std.specs.Prelude.{◌≡◌, ℕ, ◌<◌, ◌≤◌, length, List, [], ◌∷◌, ⊤, Some, None, Result, Ok, Err, Bool, true, false, if◌then◌else◌, ◌==◌}
+use Rattle.std.specs.declared.option.Option.{Option}
+use Rattle.std.specs.Str.{bytes_eq}
+use Rattle.std.specs.List.{list_any}
+use Rattle.mp_ports.specs.Causes.{raised}
+use Rattle.mp_ports.specs.declared.ports.ReadErr.{ReadErr}
+use Rattle.mp_ports.specs.declared.ports.ReadErr.TheVariants.{Failed, TooLong, NoMemory}
+
+-- Where the bytes of a file are told, TooLong comes, among the answers that are not Failed, exactly where there are more than the limit.
+abbrev pub Told : Option (List ℕ) → ℕ → Result (List ℕ) ReadErr → Type 0
+Told None limit answer = ⊤
+Told (Some bytes) limit (Ok text) = (text ≡ bytes) × (length bytes ≤ limit)
+Told (Some bytes) limit (Err Failed) = ⊤
+Told (Some bytes) limit (Err TooLong) = limit < length bytes
+Told (Some bytes) limit (Err NoMemory) = length bytes ≤ limit
+
+-- the first file of the name
+abbrev pub file_of : List ℕ → List (List ℕ × List ℕ) → Option (List ℕ)
+file_of name [] = None
+file_of name (file ∷ files) = if bytes_eq file.0 name then Some file.1 else file_of name files
+
+-- the counts of the files of the system: the faults, and the files that were too long
+pub record FileCounts : Type 0 where
+  pub faults : ℕ
+  pub longs : ℕ
+
+-- each failure raises the count of faults, and each TooLong that of long files
+abbrev pub counts_after : FileCounts → Result (List ℕ) ReadErr → FileCounts
+counts_after old (Ok text) = old
+counts_after old (Err Failed) = record old { faults = raised old.faults }
+counts_after old (Err TooLong) = record old { longs = raised old.longs }
+counts_after old (Err NoMemory) = old
+
+-- a shelf in memory: its files, the calls that fail, and the counts of calls, of faults and of long files
+pub record ShelfState : Type 0 where
+  pub files : List (List ℕ × List ℕ)
+  pub fails : List ℕ
+  pub calls : ℕ
+  pub faults : ℕ
+  pub longs : ℕ
+
+-- the state after a call that gave the bytes, or lacked the memory for them
+abbrev pub called : ShelfState → ShelfState
+called s = record s { calls = raised s.calls }
+
+-- the state after a call that failed
+abbrev pub failed : ShelfState → ShelfState
+failed s = record s { calls = raised s.calls; faults = raised s.faults }
+
+-- the state after a call that found a file too long
+abbrev pub too_long : ShelfState → ShelfState
+too_long s = record s { calls = raised s.calls; longs = raised s.longs }
+
+-- whether the next call is listed as failing
+abbrev pub fails_next : ShelfState → Bool
+fails_next s = list_any (λ call. call == raised s.calls) s.fails
+
+-- a file that is not there fails, and another gives its bytes exactly where they are at most the limit
+abbrev pub FileRead : ShelfState → ShelfState → Option (List ℕ) → ℕ → Result (List ℕ) ReadErr → Type 0
+FileRead old new None limit (Err Failed) = new ≡ failed old
+FileRead old new (Some bytes) limit (Ok text) = (new ≡ called old) × (text ≡ bytes) × (length bytes ≤ limit)
+FileRead old new (Some bytes) limit (Err TooLong) = (new ≡ too_long old) × (limit < length bytes)
+FileRead old new (Some bytes) limit (Err NoMemory) = (new ≡ called old) × (length bytes ≤ limit)
+FileRead old new file limit answer = ⊥
+
+abbrev pub ReadBy : Bool → ShelfState → ShelfState → List ℕ → ℕ → Result (List ℕ) ReadErr → Type 0
+ReadBy true old new name limit (Err Failed) = new ≡ failed old
+ReadBy true old new name limit answer = ⊥
+ReadBy false old new name limit answer = FileRead old new (file_of name old.files) limit answer
+
+-- a call that is listed fails, and another reads the first file of the name
+abbrev pub ShelfRead : ShelfState → ShelfState → List ℕ → ℕ → Result (List ℕ) ReadErr → Type 0
+ShelfRead old new name limit answer = ReadBy (fails_next old) old new name limit answer

@@ -1,0 +1,31 @@
+-- The size and the depth of a term in which other terms stand for its first variables.
+use Rattle.std.specs.Prelude.{ℕ, ◌+◌, sum, List}
+use Rattle.std.specs.List.{slice_index_or}
+use Rattle.mp_term.specs.declared.term.Term.{Term, Term-F}
+use Rattle.mp_term.specs.declared.term.Bound.{Bound}
+use Rattle.mp_term.specs.declared.term.Term.TheOpen as layer
+use Rattle.mp_term.specs.declared.term.Term.TheFolds.{fold-Term, fold-Bound}
+use Rattle.mp_term.specs.Terms.{body_step, greatest}
+
+module _ (sizes : List ℕ) where
+  abbrev pub sub_size_step : Term-F ℕ ℕ → ℕ
+  sub_size_step (layer.Var level) = slice_index_or sizes level 1
+  sub_size_step (layer.Op op params subs) = 1 + sum subs
+
+  -- each variable that has an item in the list counts as that item, and each other variable and each operator as 1
+  abbrev pub sub_size : Term → ℕ
+  sub_size = fold-Term ℕ ℕ sub_size_step body_step
+
+  abbrev pub sub_size_bound : Bound → ℕ
+  sub_size_bound = fold-Bound ℕ ℕ sub_size_step body_step
+
+  abbrev pub sub_depth_step : Term-F ℕ ℕ → ℕ
+  sub_depth_step (layer.Var level) = slice_index_or sizes level 1
+  sub_depth_step (layer.Op op params subs) = 1 + greatest subs
+
+  -- the depth, where each variable that has an item in the list is as deep as that item
+  abbrev pub sub_depth : Term → ℕ
+  sub_depth = fold-Term ℕ ℕ sub_depth_step body_step
+
+  abbrev pub sub_depth_bound : Bound → ℕ
+  sub_depth_bound = fold-Bound ℕ ℕ sub_depth_step body_step
