@@ -16,6 +16,12 @@ use Rattle.mp_strategy.specs.declared.outcome.Outcome.TheVariants as outcome
 use Rattle.mp_strategy.specs.Strategies.{Gives, All, AllTrees, SomeFails, ThenGives, left_of, stepped, step_by, step_with, Row, EvalsIn}
 use Rattle.mp_strategy.specs.Laws.{IsGood}
 
+-- each justification of a list is allowed
+pub allowed_at : {J : Type 0} (allowed : J → Bool) (js : List J) (i : ℕ) (j : J) → list_all allowed js ≡ true → slice_get js i ≡ Some j → IsTrue (allowed j)
+allowed_at allowed [] i j a e = absurd cc
+allowed_at allowed (k ∷ ks) zero j a e = let h : k ≡ j = cc in subst (λ x. IsTrue (allowed x)) h (and_parts (allowed k) (list_all allowed ks) a).0
+allowed_at allowed (k ∷ ks) (suc i) j a e = allowed_at allowed ks i j (and_parts (allowed k) (list_all allowed ks) a).1 e
+
 module _ {G : Type 0} (good : G → Bool) where
   abbrev pub Good : G → Type 0
   Good g = IsTrue (good g)
@@ -55,14 +61,9 @@ module _ {G : Type 0} (good : G → Bool) where
   module _ {J : Type 0} (allowed : J → Bool) (step : J → G → steps.Outcome G)
       (keeps_good : (j : J) (g : G) → IsTrue (allowed j) → IsTrue (good g) → IfOk (step j g) (λ kids. IsTrue (list_all good kids)))
       (justs : List J) (all_allowed : IsTrue (list_all allowed justs)) where
-    pub allowed_at : (js : List J) (i : ℕ) (j : J) → list_all allowed js ≡ true → slice_get js i ≡ Some j → IsTrue (allowed j)
-    allowed_at [] i j a e = absurd cc
-    allowed_at (k ∷ ks) zero j a e = let h : k ≡ j = cc in subst (λ x. IsTrue (allowed x)) h (and_parts (allowed k) (list_all allowed ks) a).0
-    allowed_at (k ∷ ks) (suc i) j a e = allowed_at ks i j (and_parts (allowed k) (list_all allowed ks) a).1 e
-
     good_step_by : (here : ℕ) (just : JustId) (g : G) → Good g → (o : Option J) → slice_get justs just.0 ≡ o → IsGood good (step_by step o here just g)
     good_step_by here just g a None e = a
-    good_step_by here just g a (Some j) e = good_stepped here just g (step j g) a (keeps_good j g (allowed_at justs just.0 j all_allowed e) a)
+    good_step_by here just g a (Some j) e = good_stepped here just g (step j g) a (keeps_good j g (allowed_at allowed justs just.0 j all_allowed e) a)
 
     pub good_step : (here : ℕ) (just : JustId) (f : ℕ) (g : G) → Good g → IsGood good (step_with step justs here just f g)
     good_step here just zero g a = a

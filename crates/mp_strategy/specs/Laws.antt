@@ -1,6 +1,5 @@
 -- What holds of all that strategies give.
 use Rattle.std.specs.Prelude.{◌≡◌, ℕ, ◌+◌, ◌<◌, ◌≤◌, Bool, IsTrue, List, length, ⊤}
-use Rattle.std.specs.List.{list_all}
 use Rattle.mp_logic.specs.declared.tree.Tree.{Tree}
 use Rattle.mp_logic.specs.declared.tree.Tree.TheOpen.{Tree-F}
 use Rattle.mp_logic.specs.declared.tree.Tree.TheOpen as layer
@@ -12,7 +11,7 @@ use Rattle.mp_strategy.specs.declared.tactic.Tac.{Tac}
 use Rattle.mp_strategy.specs.declared.outcome.Outcome.{Outcome}
 use Rattle.mp_strategy.specs.declared.outcome.Outcome.TheVariants as outcome
 use Rattle.mp_strategy.specs.declared.work.Work.{Work}
-use Rattle.mp_strategy.specs.Fits.{greatest, fits_of}
+use Rattle.mp_strategy.specs.Fits.{greatest}
 use Rattle.mp_strategy.specs.Strategies.{Evals}
 use Rattle.mp_strategy.specs.Evaluation.{eval}
 
@@ -35,19 +34,18 @@ module _ {G J : Type 0} (step : J → G → steps.Outcome G) (justs : List J) wh
   IsSound f g (outcome.Tree t) = IsValid step justs t g × (depth_of t ≤ f)
   IsSound f g (outcome.Failure e) = ⊤
 
-  -- evaluation gives what the relation allows
+  -- evaluation of an entry gives what the relation allows
   abbrev pub EvalIsAllowed : List Tac → Type 0
-  EvalIsAllowed tacs = (work : Work G) → IsTrue (fits_of (length justs) tacs) → work.tac.0 < length tacs → Evals step justs tacs work (eval step justs tacs work)
+  EvalIsAllowed tacs = (work : Work G) → work.tac.0 < length tacs → Evals step justs tacs work (eval step justs tacs work)
 
   -- the relation allows nothing else, where there is no race: so far there is none
   abbrev pub OnlyEvalIsAllowed : List Tac → Type 0
   OnlyEvalIsAllowed tacs = (work : Work G) (o : Outcome G) → Evals step justs tacs work o → o ≡ eval step justs tacs work
 
-  -- each tree that the relation allows is valid for the work's goal, with no path of more steps than the fuel
+  -- each tree that the relation allows is valid for the work's goal, and no path of it has more steps than the work's fuel
   abbrev pub TreesAreSound : List Tac → Type 0
   TreesAreSound tacs = (work : Work G) (o : Outcome G) → Evals step justs tacs work o → IsSound work.fuel work.goal o
 
-  -- a good goal gives good goals, where the justifications are allowed
-  abbrev pub GoalsStayGood : (G → Bool) → (J → Bool) → List Tac → Type 0
-  GoalsStayGood good allowed tacs = (work : Work G) (o : Outcome G)
-      → IsTrue (list_all allowed justs) → IsTrue (good work.goal) → Evals step justs tacs work o → IsGood good o
+  -- a good goal gives good goals
+  abbrev pub GoalsStayGood : (G → Bool) → List Tac → Type 0
+  GoalsStayGood good tacs = (work : Work G) (o : Outcome G) → IsTrue (good work.goal) → Evals step justs tacs work o → IsGood good o

@@ -1,5 +1,5 @@
 ghost use Rattle.std.specs.Prelude.{◌≡◌, ◌<◌, ◌≤◌, length, IsTrue, IfOk};
-ghost use Rattle.mp_strategy.specs.Works.{work_of};
+ghost use Rattle.mp_strategy.specs.Works.{work_of, IsWork};
 
 use crate::{Problem, TacId};
 use mp_logic::{Logic, NoMemory};
@@ -23,7 +23,8 @@ impl<G: Drop> Work<G> {
         requires tac { tac.0 < length problem.now.tacs }
         requires fuel { fuel ≤ 400 }
         requires good { IsTrue (L.good problem.now.logic.now goal) }
-        ensures { result ≡ work_of problem.now.tacs tac fuel goal }
+        ensures value { result ≡ work_of problem.now.tacs tac fuel goal }
+        ensures fits { IsWork (L.good problem.now.logic.now) problem.now.tacs result }
     {
         Work {
             tac,

@@ -1,0 +1,9 @@
+//! Evaluation of strategies by one thread, and the laws of what they give.
+#![tactic(auto)]
+
+mod evaluation;
+mod laws;
+mod waiting;
+
+pub use evaluation::evaluate;
+pub use laws::{eval_is_allowed, goals_stay_good, only_eval_is_allowed, trees_are_sound};
