@@ -1,0 +1,6 @@
+pub mod Founds
+pub mod Kids
+pub mod Named
+pub mod Ops
+pub mod Room
+pub mod Whole

@@ -1,0 +1,6 @@
+pub mod Goods
+pub mod Instance
+pub mod Layers
+pub mod PatternInduction
+pub mod Reading
+pub mod SameTerms
