@@ -1,13 +1,13 @@
 -- The chain's table is made from both ends, and it fits.
-use Rattle.std.proofs.Common.{◌≡◌, ℕ, zero, suc, ◌+◌, ◌-◌, ◌*◌, ◌<◌, ◌≤◌, ◌++◌, List, [], ◌∷◌, length, map, max, Bool, true, ◌&&◌, nat_lt, nat_le, refl, sym, ap, subst, ◌∙◌, append_assoc, length-append, arith}
+use Rattle.std.proofs.Common.{◌≡◌, ℕ, zero, suc, ◌+◌, ◌-◌, ◌*◌, ◌<◌, ◌++◌, List, [], ◌∷◌, length, max, true, ◌&&◌, nat_lt, nat_le, refl, sym, ap, subst, ◌∙◌, append_assoc, length-append, arith}
 use Rattle.std.specs.Prelude.{slice_index}
 use Rattle.std.specs.List.{list_all}
-use Rattle.std.proofs.lemmas.Bool.{lt-ltb, and_from}
+use Rattle.std.proofs.lemmas.Bool.{and_from}
 use Rattle.std.proofs.lemmas.Bool.Decides.{nat_tests}
 use Rattle.std.proofs.lemmas.List.{append-nil}
 use Rattle.std.proofs.lemmas.List.Folds.{list_all-append}
 use Rattle.mp_strategy.specs.declared.tactic.Tac.{Tac}
-use Rattle.mp_strategy.specs.Fits.{fits_of, rows_fit, row_fits, depths, depth_by, is_behind}
+use Rattle.mp_strategy.specs.Fits.{fits_of, rows_fit, depths, depth_by, is_behind}
 use Rattle.mp_thintext.specs.Chain.{step, then_, chain_from, steps_from}
 
 pub chain_next : (a b whole : List Tac) (here n m left right : ℕ) → n ≡ suc m → left ≡ here + 1 → right ≡ here + 2 * n → b ≡ a ++ then_ left right ∷ []
@@ -21,9 +21,9 @@ chain_next a b whole here n m left right e f g h k =
     let far : here + 2 * (m + 1) ≡ right = omega arith in
     let x1 : X ≡ step (m + 1) ∷ S = ap (steps_from (m + 1)) one ∙ ap (λ j. step (m + 1) ∷ steps_from j here) num in
     let c1 : chain_from here n ≡ then_ left right ∷ (C ++ step (m + 1) ∷ []) =
-        ap (chain_from here) e ∙ ap (λ r. then_ (here + 1) r ∷ (C ++ step (m + 1) ∷ [])) far ∙ ap (λ q. then_ q right ∷ (C ++ step (m + 1) ∷ [])) (sym f) in
+    ap (chain_from here) e ∙ ap (λ r. then_ (here + 1) r ∷ (C ++ step (m + 1) ∷ [])) far ∙ ap (λ q. then_ q right ∷ (C ++ step (m + 1) ∷ [])) (sym f) in
     ap (λ v. v ++ (C ++ X)) h ∙ append_assoc a (then_ left right ∷ []) (C ++ X) ∙ ap (λ x. a ++ (then_ left right ∷ (C ++ x))) x1
-      ∙ ap (λ x. a ++ (then_ left right ∷ x)) (sym (append_assoc C (step (m + 1) ∷ []) S)) ∙ ap (λ c. a ++ (c ++ S)) (sym c1) ∙ k
+    ∙ ap (λ x. a ++ (then_ left right ∷ x)) (sym (append_assoc C (step (m + 1) ∷ []) S)) ∙ ap (λ c. a ++ (c ++ S)) (sym c1) ∙ k
 
 pub steps_next : (a b whole : List Tac) (j n m : ℕ) → n ≡ suc m → b ≡ a ++ step j ∷ [] → a ++ steps_from j n ≡ whole → b ++ steps_from (j + 1) m ≡ whole
 steps_next a b whole j n m e h k =
@@ -61,18 +61,18 @@ depths_chain (suc n) here rest =
     let D = depths (here + (2 * suc n + 1)) rest in
     let far : here + 1 + (2 * n + 1) + 1 ≡ here + (2 * suc n + 1) = omega arith in
     let behind : depths (here + 1) tail ≡ deeps n ++ (1 ∷ D) =
-        ap (depths (here + 1)) (append_assoc C (step (n + 1) ∷ []) rest) ∙ depths_chain n (here + 1) (step (n + 1) ∷ rest) ∙ ap (λ h. deeps n ++ (1 ∷ depths h rest)) far in
+    ap (depths (here + 1)) (append_assoc C (step (n + 1) ∷ []) rest) ∙ depths_chain n (here + 1) (step (n + 1) ∷ rest) ∙ ap (λ h. deeps n ++ (1 ∷ depths h rest)) far in
     let at : here + 1 - (here + 1) ≡ 0 = omega arith in
     let last : here + 2 * (n + 1) - (here + 1) ≡ length (deeps n) = omega (arith, length_deeps n) in
     let head : depth_by here (deeps n ++ (1 ∷ D)) (then_ (here + 1) (here + 2 * (n + 1))) ≡ n + 2 =
-        depth_of_then here (here + 1) (here + 2 * (n + 1)) (n + 1) 1 (deeps n ++ (1 ∷ D)) (index_first n (1 ∷ D) (here + 1 - (here + 1)) at) (index_past (deeps n) 1 D (here + 2 * (n + 1) - (here + 1)) last) ∙ omega arith in
+    depth_of_then here (here + 1) (here + 2 * (n + 1)) (n + 1) 1 (deeps n ++ (1 ∷ D)) (index_first n (1 ∷ D) (here + 1 - (here + 1)) at) (index_past (deeps n) 1 D (here + 2 * (n + 1) - (here + 1)) last) ∙ omega arith in
     ap (λ ds. depth_by here ds (then_ (here + 1) (here + 2 * (n + 1))) ∷ ds) behind ∙ ap (λ d. d ∷ (deeps n ++ (1 ∷ D))) head ∙ ap (λ ds. (n + 2) ∷ ds) (sym (append_assoc (deeps n) (1 ∷ []) D))
 
 shallow : (n : ℕ) → n < 64 → list_all (λ d. nat_le d 64) (deeps n) ≡ true
 shallow zero h = refl
 shallow (suc n) h =
     and_from (nat_le (n + 2) 64) (list_all (λ d. nat_le d 64) (deeps n ++ 1 ∷ [])) (grind (arith, nat_tests))
-      (list_all-append (λ d. nat_le d 64) (deeps n) (1 ∷ []) ∙ and_from (list_all (λ d. nat_le d 64) (deeps n)) true (shallow n (omega arith)) refl)
+    (list_all-append (λ d. nat_le d 64) (deeps n) (1 ∷ []) ∙ and_from (list_all (λ d. nat_le d 64) (deeps n)) true (shallow n (omega arith)) refl)
 
 both_behind : (here count a b : ℕ) → here < a → a < count → here < b → b < count → list_all (is_behind here count) (a ∷ b ∷ []) ≡ true
 both_behind here count a b h i j k = grind (arith, nat_tests)
@@ -85,13 +85,13 @@ rows_fit_chain justs (suc n) here rest h k =
     let far : here + (2 * suc n + 1) ≡ here + 1 + (2 * n + 1) + 1 = omega arith in
     let size : length tail ≡ 2 * n + 2 + length rest = omega (arith, length-append (C ++ step (n + 1) ∷ []) rest, length-append C (step (n + 1) ∷ []), length_chain (here + 1) n) in
     let last : rows_fit justs (here + 1 + (2 * n + 1)) (step (n + 1) ∷ rest) ≡ true =
-        (let q = subst (λ h. rows_fit justs h rest ≡ true) far k in let small : n + 1 < justs = omega arith in grind (arith, nat_tests)) in
+    (let q = subst (λ h. rows_fit justs h rest ≡ true) far k in let small : n + 1 < justs = omega arith in grind (arith, nat_tests)) in
     let count = here + 1 + length tail in
     let behind : list_all (is_behind here count) ((here + 1) ∷ (here + 2 * (n + 1)) ∷ []) ≡ true =
-        both_behind here count (here + 1) (here + 2 * (n + 1)) (omega arith) (omega arith) (omega arith) (omega arith) in
+    both_behind here count (here + 1) (here + 2 * (n + 1)) (omega arith) (omega arith) (omega arith) (omega arith) in
     and_from (list_all (is_behind here count) ((here + 1) ∷ (here + 2 * (n + 1)) ∷ []) && true) (rows_fit justs (here + 1) tail)
-      (and_from (list_all (is_behind here count) ((here + 1) ∷ (here + 2 * (n + 1)) ∷ [])) true behind refl)
-      (ap (rows_fit justs (here + 1)) (append_assoc C (step (n + 1) ∷ []) rest) ∙ rows_fit_chain justs n (here + 1) (step (n + 1) ∷ rest) (omega arith) last)
+    (and_from (list_all (is_behind here count) ((here + 1) ∷ (here + 2 * (n + 1)) ∷ [])) true behind refl)
+    (ap (rows_fit justs (here + 1)) (append_assoc C (step (n + 1) ∷ []) rest) ∙ rows_fit_chain justs n (here + 1) (step (n + 1) ∷ rest) (omega arith) last)
 
 -- a chain of at most 64 steps fits
 pub chain_fits : (n : ℕ) → n < 64 → fits_of (n + 1) (chain_from 0 n) ≡ true
@@ -104,5 +104,5 @@ chain_fits n h =
     let some : nat_lt 0 (length C) ≡ true = grind (arith, nat_tests) in
     let few : nat_le (length C) 4096 ≡ true = grind (arith, nat_tests) in
     and_from (nat_lt 0 (length C)) (nat_le (length C) 4096 && (rows_fit (n + 1) 0 C && list_all (λ d. nat_le d 64) (depths 0 C))) some
-      (and_from (nat_le (length C) 4096) (rows_fit (n + 1) 0 C && list_all (λ d. nat_le d 64) (depths 0 C)) few
-        (and_from (rows_fit (n + 1) 0 C) (list_all (λ d. nat_le d 64) (depths 0 C)) rows (ap (list_all (λ d. nat_le d 64)) depth ∙ shallow n h)))
+    (and_from (nat_le (length C) 4096) (rows_fit (n + 1) 0 C && list_all (λ d. nat_le d 64) (depths 0 C)) few
+    (and_from (rows_fit (n + 1) 0 C) (list_all (λ d. nat_le d 64) (depths 0 C)) rows (ap (list_all (λ d. nat_le d 64)) depth ∙ shallow n h)))

@@ -3,3 +3,6 @@ pub mod Loops
 pub mod Combine
 pub mod Determinism
 pub mod ChainFits
+pub mod RawInduction
+pub mod GoodEntries
+pub mod Answering

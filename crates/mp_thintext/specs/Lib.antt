@@ -2,3 +2,5 @@ pub mod Parts
 pub mod Grammar
 pub mod Laws
 pub mod Chain
+pub mod Values
+pub mod Texts

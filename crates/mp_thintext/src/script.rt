@@ -6,8 +6,28 @@ use crate::parts::{ReadFail, mark, number, read_named, stuck, word};
 use crate::pattern::read_schema;
 use crate::raw::{Form, RawPattern, RawScript};
 use mp_logic::{List, Sym};
+use mp_refiner::Just;
+use mp_strategy::Tac;
+use mp_term::Sequent;
 use mp_termtext::{Keyword, Mark, Word};
 use std::alloc::Global;
+
+/// A goal with its fuel, its justifications and its table of strategies.
+#[derive(Drop)]
+pub struct Entry {
+    pub name: Sym,
+    pub goal: Sequent,
+    /// 0 to 400.
+    pub fuel: u32,
+    pub justs: List<Just>,
+    pub tacs: List<Tac>,
+}
+
+/// The entries of a script, in order.
+#[derive(Drop)]
+pub struct Script {
+    pub entries: List<Entry>,
+}
 
 /// Reads `then` and a step's rule.
 fn read_then(words: &[Word]) -> Result<(Sym, &[Word]), ReadFail>

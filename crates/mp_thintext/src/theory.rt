@@ -1,4 +1,4 @@
-ghost use Rattle.std.specs.Prelude.{◌<◌, [], length, IfOk};
+ghost use Rattle.std.specs.Prelude.{◌<◌, ◌≤◌, [], length, IfOk};
 ghost use Rattle.mp_thintext.specs.Parts.{Reads};
 ghost use Rattle.mp_thintext.specs.Grammar.{ArePremises, StuckPremises, AreSchemas, StuckSchemas, IsRule, StuckRule, IsTheory, StuckTheory};
 
@@ -68,7 +68,8 @@ fn read_rule(alloc: Global, words: &[Word]) -> Result<(RawRule, &[Word]), ReadFa
 
 /// Reads a theory that is all of the words.
 pub fn parse_theory(alloc: Global, words: &[Word]) -> Result<List<RawRule>, ReadFail>
-    ensures { Reads (λ x. (x, [])) IsTheory StuckTheory words.now result }
+    ensures reads { Reads (λ x. (x, [])) IsTheory StuckTheory words.now result }
+    ensures few { IfOk result (λ rules. length rules ≤ length words.now) }
 {
     let mut rules = List::new(alloc);
     let mut at = words;

@@ -1,4 +1,4 @@
-use Rattle.std.proofs.Common.{◌≡◌, ◌++◌, ◌+◌, ◌-◌, ◌≤◌}
+use Rattle.std.proofs.Common.{◌≡◌, ◌++◌, ◌+◌, ◌-◌}
 use Rattle.mp_thintext.specs.Chain.{chain_from, steps_from}
 use Rattle.mp_thintext.proofs.chain.chain.Given as goal
 
