@@ -1,0 +1,6 @@
+pub mod Parts
+pub mod Grammar
+pub mod Laws
+pub mod Chain
+pub mod Values
+pub mod Texts

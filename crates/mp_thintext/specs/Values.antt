@@ -1,0 +1,160 @@
+-- The static rules of the raw values, and what the values stand for.
+use Rattle.std.specs.Prelude.{◌≡◌, ℕ, ℤ, pos, negsuc, nat_abs, ◌++◌, List, [], ◌∷◌, length, map, Bool, true, false, not, nat_le, nat_lt, nat_eq, ◌≤◌, IsTrue, ◌&&◌, Option, Some, None, is_some, Result, Ok, Err, ⊤}
+use Rattle.std.specs.List.{list_all, list_any}
+use Rattle.mp_logic.specs.declared.sym.Sym.{Sym}
+use Rattle.mp_term.specs.declared.term.Term.{Term}
+use Rattle.mp_term.specs.declared.term.Term as term
+use Rattle.mp_term.specs.declared.term.Bound.{Bound}
+use Rattle.mp_term.specs.declared.sequent.Sequent.{Sequent}
+use Rattle.mp_term.specs.Limits.{within_limits_of}
+use Rattle.mp_refiner.specs.declared.pattern.Pattern.{Pattern}
+use Rattle.mp_refiner.specs.declared.pattern.Pattern as pattern
+use Rattle.mp_refiner.specs.declared.rule.Rule.{Rule}
+use Rattle.mp_refiner.specs.declared.just.Just.{Just}
+use Rattle.mp_refiner.specs.declared.just.Just.TheVariants as just
+use Rattle.mp_refiner.specs.Tables.{has_name, place_of, is_faultless}
+use Rattle.mp_thintext.specs.declared.raw.RawPattern.{RawPattern, RawPattern-F}
+use Rattle.mp_thintext.specs.declared.raw.RawPattern.TheOpen as layer
+use Rattle.mp_thintext.specs.declared.raw.RawPattern.TheFolds.{fold-RawPattern}
+use Rattle.mp_thintext.specs.declared.raw.RawRule.{RawRule}
+use Rattle.mp_thintext.specs.declared.raw.RawScript.{RawScript}
+use Rattle.mp_thintext.specs.declared.raw.RawSection.{RawSection}
+use Rattle.mp_thintext.specs.declared.raw.RawEvent.{RawEvent}
+use Rattle.mp_thintext.specs.declared.raw.RawEvent.TheVariants as event
+use Rattle.mp_thintext.specs.declared.raw.Action.{Action}
+use Rattle.mp_thintext.specs.declared.raw.Action.TheVariants as action
+use Rattle.mp_thintext.specs.declared.fail.ThinErr.{ThinErr}
+use Rattle.mp_thintext.specs.declared.fail.ThinErr.TheVariants as thin
+use Rattle.mp_thintext.specs.declared.script.Entry.{Entry}
+use Rattle.mp_thintext.specs.declared.script.Script.{Script}
+use Rattle.mp_strategy.specs.Fits.{fits_of}
+use Rattle.mp_refiner.specs.Steps.{is_good, names_rule}
+use Rattle.mp_thintext.specs.Chain.{chain_from}
+
+-- refused exactly where the static rules don't hold, unless memory ran out
+abbrev pub Decides : {X : Type 0} → Bool → Result X ThinErr → Type 0
+Decides rules (Ok x) = rules ≡ true
+Decides rules (Err thin.Refused) = rules ≡ false
+Decides rules (Err thin.NoMemory) = ⊤
+
+-- a number from the least up to the most
+abbrev pub in_range : ℕ → ℕ → ℤ → Bool
+in_range least most (pos n) = nat_le least n && nat_le n most
+in_range least most (negsuc n) = false
+
+abbrev pub pattern_step : RawPattern-F Pattern → Pattern
+pattern_step (layer.Meta name) = pattern.Meta name
+pattern_step (layer.Op name subs) = pattern.Op name subs
+
+-- the pattern that is written
+abbrev pub pattern_of : RawPattern → Pattern
+pattern_of = fold-RawPattern Pattern pattern_step
+
+abbrev pub unbound : Term → Bound
+unbound t = record { binders = 0; body = t }
+
+-- no term has a second-order variable: it counts as an operator
+abbrev pub term_step : RawPattern-F Term → Term
+term_step (layer.Meta name) = term.Op name [] []
+term_step (layer.Op name subs) = term.Op name [] (map unbound subs)
+
+-- the term that is written
+abbrev pub term_of : RawPattern → Term
+term_of = fold-RawPattern Term term_step
+
+abbrev pub rule_of : RawRule → Rule
+rule_of r = record { name = r.name; premises = map pattern_of r.premises; concl = pattern_of r.conclusion }
+
+-- the rules that are written
+abbrev pub rules_of : List RawRule → List Rule
+rules_of = map rule_of
+
+-- no rule before it has its name, and it is faultless
+abbrev pub may_follow : List Rule → Rule → Bool
+may_follow before r = not (has_name before r.name) && is_faultless r
+
+-- each rule may follow those before it
+abbrev pub may_all_follow : List Rule → List Rule → Bool
+may_all_follow before [] = true
+may_all_follow before (r ∷ rs) = may_follow before r && may_all_follow (before ++ r ∷ []) rs
+
+-- the static rules of a theory
+abbrev pub is_theory : List RawRule → Bool
+is_theory raws = may_all_follow [] (rules_of raws)
+
+-- the goal without hypotheses
+abbrev pub bare : Term → Sequent
+bare t = record { hyps = []; concl = t }
+
+abbrev pub goal_of : RawScript → Sequent
+goal_of s = bare (term_of s.goal)
+
+-- the names of the steps' rules in order
+abbrev pub steps_of : RawScript → List Sym
+steps_of s = s.first ∷ s.others
+
+abbrev pub is_rule : List Rule → Sym → Bool
+is_rule rules name = is_some (place_of rules name)
+
+-- the static rules of a script: fuel 0 to 400, a goal within the limits, at most 64 steps, and each step's rule is in the theory
+abbrev pub is_script : List Rule → RawScript → Bool
+is_script rules s = in_range 0 400 s.fuel && (within_limits_of (goal_of s) && (nat_lt (length s.others) 64 && list_all (is_rule rules) (steps_of s)))
+
+abbrev pub or_zero : Option ℕ → ℕ
+or_zero None = 0
+or_zero (Some n) = n
+
+-- the justification by the rule of this name
+abbrev pub just_of : List Rule → Sym → Just
+just_of rules name = just.Rule (or_zero (place_of rules name))
+
+-- the entry that is written: each step has a justification of its own
+abbrev pub entry_of : List Rule → RawScript → Entry
+entry_of rules s = record {
+  name = s.name;
+  goal = goal_of s;
+  fuel = nat_abs s.fuel;
+  justs = map (just_of rules) (steps_of s);
+  tacs = chain_from 0 (length s.others);
+}
+
+-- an empty script keeps all rules
+abbrev pub keeps_rules : List Rule → Option RawScript → Bool
+keeps_rules rules None = true
+keeps_rules rules (Some s) = is_script rules s
+
+-- the script that is written
+abbrev pub script_of : List Rule → Option RawScript → Script
+script_of rules None = record { entries = [] }
+script_of rules (Some s) = record { entries = entry_of rules s ∷ [] }
+
+-- an entry that can be evaluated in this theory
+pub record IsGoodEntry (rules : List Rule) (e : Entry) : Type 0 where
+  pub fits : IsTrue (fits_of (length e.justs) e.tacs)
+  pub allowed : IsTrue (list_all (names_rule rules) e.justs)
+  pub good : IsTrue (is_good e.goal)
+  pub fuel : e.fuel ≤ 400
+
+abbrev pub EachGood : List Rule → List Entry → Type 0
+EachGood rules [] = ⊤
+EachGood rules (e ∷ es) = IsGoodEntry rules e × EachGood rules es
+
+-- workers are 0 to 64, and those that die or are lost 1 to 64
+abbrev pub least_worker : Action → ℕ
+least_worker action.Claim = 0
+least_worker action.Send = 0
+least_worker action.Again = 0
+least_worker action.Die = 1
+least_worker action.Lose = 1
+
+abbrev pub event_fits : RawEvent → Bool
+event_fits (event.Act a worker) = in_range (least_worker a) 64 worker
+event_fits event.Reissue = true
+
+abbrev pub is_goal : List Sym → Sym → Bool
+is_goal goals name = list_any (λ goal. nat_eq goal.0 name.0) goals
+
+-- the static rules of a schedule: its goal is one of these, and its workers are in range
+abbrev pub is_schedule : List Sym → Option RawSection → Bool
+is_schedule goals None = true
+is_schedule goals (Some s) = is_goal goals s.goal && list_all event_fits s.events
