@@ -5,8 +5,8 @@ ghost use Rattle.mp_termtext.specs.Printing.{name_text, escaped, quoted};
 use itoa::Buffer;
 use mp_logic::NoMemory;
 
-/// Appends the bytes.
-pub(crate) fn push_bytes(out: &mut Vec<u8>, bytes: &[u8]) -> Result<(), NoMemory>
+/// Appends the bytes. Where there is no memory, some of them may have been appended.
+pub fn push_bytes(out: &mut Vec<u8>, bytes: &[u8]) -> Result<(), NoMemory>
     ensures text { OnOk result (out.new.items ≡ out.old.items ++ bytes.now) }
     ensures grown { OnOk result (length out.new.items ≡ length out.old.items + length bytes.now) }
 {

@@ -1,0 +1,9 @@
+//! The printed text of outcomes and of drills.
+#![tactic(auto)]
+
+mod decimal;
+mod result;
+mod trace;
+
+pub use result::result_text;
+pub use trace::trace_text;

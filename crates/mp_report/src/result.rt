@@ -1,0 +1,102 @@
+ghost use Rattle.std.specs.Prelude.{◌≡◌, ◌++◌, ◌+◌, [], OnOk, IfOk};
+ghost use Rattle.mp_logic.specs.Trees.{leaf_count_of};
+ghost use Rattle.mp_report.specs.Results.{kind_text, leaves_text, outcome_text};
+ghost use Rattle.mp_report.specs.Results.{result_text as result_text_of};
+
+use crate::decimal::push_decimal;
+use mp_logic::{List, NoMemory, Sym, Text, Tree, leaf_count};
+use mp_names::Names;
+use mp_refiner::{Just, Theory};
+use mp_strategy::{Failure, Kind, Outcome};
+use mp_term::Sequent;
+use mp_termtext::{push_bytes, push_sequent};
+use mp_treetext::push_tree;
+use std::alloc::Global;
+
+/// The block of a goal: its name, whether its tree is closed or how many leaves are open, and the tree's
+/// lines; or its failure, with the number of the strategy counted from 1.
+pub fn result_text(
+    alloc: Global,
+    names: &Names,
+    theory: &Theory,
+    name: Sym,
+    justs: &List<Just>,
+    outcome: &Outcome<Sequent>,
+) -> Result<Text, NoMemory>
+    ensures { IfOk result (λ text. text ≡ result_text_of names.now theory.now name justs.now outcome.now) }
+{
+    let mut out = Vec::new(alloc);
+    push_bytes(&mut out, b"goal ")?;
+    push_bytes(&mut out, names.text(name))?;
+    push_bytes(&mut out, b": ")?;
+    push_outcome(alloc, &mut out, names, theory, justs, outcome)?;
+    Ok(List::from_vec(out))
+}
+
+/// Appends what stands behind the goal's name.
+fn push_outcome(
+    alloc: Global,
+    out: &mut Vec<u8>,
+    names: &Names,
+    theory: &Theory,
+    justs: &List<Just>,
+    outcome: &Outcome<Sequent>,
+) -> Result<(), NoMemory>
+    ensures { OnOk result (out.new.items ≡ out.old.items ++ outcome_text names.now theory.now justs.now outcome.now) }
+{
+    match outcome {
+        Outcome::Tree(tree) => {
+            push_leaves(out, tree)?;
+            push_bytes(out, b"\n")?;
+            push_tree(alloc, out, names, theory, justs, tree)
+        }
+        Outcome::Failure(failure) => push_failure(out, names, failure),
+    }
+}
+
+/// Appends whether the tree is closed, or how many leaves are open.
+fn push_leaves(out: &mut Vec<u8>, tree: &Tree<Sequent>) -> Result<(), NoMemory>
+    ensures { OnOk result (out.new.items ≡ out.old.items ++ leaves_text (leaf_count_of tree.now)) }
+{
+    let open = leaf_count(tree);
+    if open == 0 {
+        return push_bytes(out, b"closed");
+    }
+    push_decimal(out, open)?;
+    push_bytes(out, b" open")
+}
+
+/// Appends the failure: its kind, the number of its strategy counted from 1, and its goal.
+fn push_failure(
+    out: &mut Vec<u8>,
+    names: &Names,
+    failure: &Failure<Sequent>,
+) -> Result<(), NoMemory>
+    ensures { OnOk result (out.new.items ≡ out.old.items ++ outcome_text names.now [] [] (Outcome.Failure failure.now)) }
+{
+    push_bytes(out, b"failed ")?;
+    push_kind(out, failure.kind)?;
+    push_bytes(out, b" at strategy ")?;
+    push_decimal(out, failure.tac.0 as u64 + 1)?;
+    push_bytes(out, b" | ")?;
+    push_sequent(out, names, &failure.goal)?;
+    push_bytes(out, b"\n")
+}
+
+/// Appends the name of the kind.
+fn push_kind(out: &mut Vec<u8>, kind: Kind) -> Result<(), NoMemory>
+    ensures { OnOk result (out.new.items ≡ out.old.items ++ kind_text kind) }
+{
+    match kind {
+        Kind::OutOfFuel => push_bytes(out, b"OutOfFuel"),
+        Kind::NoMatch => push_bytes(out, b"NoMatch"),
+        Kind::BadArgument => push_bytes(out, b"BadArgument"),
+        Kind::BadAddress => push_bytes(out, b"BadAddress"),
+        Kind::UnderBinder => push_bytes(out, b"UnderBinder"),
+        Kind::TooLarge => push_bytes(out, b"TooLarge"),
+        Kind::NoProgress => push_bytes(out, b"NoProgress"),
+        Kind::Incomplete => push_bytes(out, b"Incomplete"),
+        Kind::WrongCount => push_bytes(out, b"WrongCount"),
+        Kind::Failed => push_bytes(out, b"Failed"),
+    }
+}

@@ -1,0 +1,46 @@
+-- The one text of a step and of a proof tree.
+use Rattle.std.specs.Prelude.{ℕ, ◌++◌, List, [], ◌∷◌, Some, None, codes, slice_get}
+use Rattle.std.specs.declared.option.Option.{Option}
+use Rattle.mp_logic.specs.declared.tree.JustId.{JustId}
+use Rattle.mp_logic.specs.declared.tree.Tree.{Tree, Tree-F}
+use Rattle.mp_logic.specs.declared.tree.Tree.TheOpen as layer
+use Rattle.mp_logic.specs.declared.tree.Tree.TheFolds.{fold-Tree}
+use Rattle.mp_names.specs.Table.{text_of}
+use Rattle.mp_term.specs.declared.sequent.Sequent.{Sequent}
+use Rattle.mp_termtext.specs.Printing.{sequent_text}
+use Rattle.mp_refiner.specs.declared.just.Just.{Just}
+use Rattle.mp_refiner.specs.declared.just.Just.TheVariants.{Rule}
+use Rattle.mp_refiner.specs.declared.rule.Rule.{Rule as RuleOf}
+
+-- a rule's name; nothing where there is no such rule
+abbrev pub rule_text : List (List ℕ) → Option RuleOf → List ℕ
+rule_text names (Some rule) = text_of names rule.name.0
+rule_text names None = []
+
+-- a step by a justification: `rule` and the rule's name
+abbrev pub step_text : List (List ℕ) → List RuleOf → Option Just → List ℕ
+step_text names rules (Some (Rule place)) = codes "rule " ++ rule_text names (slice_get rules place)
+step_text names rules None = []
+
+-- a bar, the sequent and the line's end
+abbrev pub goal_text : List (List ℕ) → Sequent → List ℕ
+goal_text names goal = codes " | " ++ sequent_text names goal ++ codes "\n"
+
+-- what is printed behind an indentation
+abbrev pub Indented : Type 0
+Indented = List ℕ → List ℕ
+
+-- the texts one after the other, each behind the same indentation
+abbrev pub all_indented : List ℕ → List Indented → List ℕ
+all_indented indent [] = []
+all_indented indent (t ∷ ts) = t indent ++ all_indented indent ts
+
+module _ (names : List (List ℕ)) (rules : List RuleOf) (justs : List Just) where
+  abbrev pub tree_step : Tree-F Sequent Indented → Indented
+  tree_step (layer.Leaf goal) indent = indent ++ codes "open" ++ goal_text names goal
+  tree_step (layer.Step goal just kids) indent =
+      indent ++ step_text names rules (slice_get justs just.0) ++ goal_text names goal ++ all_indented (indent ++ codes "  ") kids
+
+  -- a line for each node in preorder, with its justification or `open`; a kid's line is indented by two spaces more than its parent's
+  abbrev pub tree_text : Tree Sequent → Indented
+  tree_text = fold-Tree Sequent Indented tree_step
