@@ -24,3 +24,6 @@ pub use reading::{read_schedule, read_script, read_theory};
 pub use schedule::parse_schedule;
 pub use script::{Entry, Script, parse_script};
 pub use theory::parse_theory;
+
+#[cfg(test)]
+mod tests;
