@@ -6,7 +6,7 @@ use Rattle.mp_core.specs.declared.state.MachineState.{MachineState}
 use Rattle.mp_core.specs.declared.state.Parcel.{Parcel}
 use Rattle.mp_core.specs.declared.core_calls.Reported.{Reported}
 use Rattle.mp_core.specs.Machine.{opening, claimed_by, reissued, next_for, lost_by, Reports, answer_of}
-use Rattle.mp_core.specs.Sound.{IsSound}
+use Rattle.mp_core.specs.Sound.{IsSoundState}
 
 -- one call; a report may be of any parcel, late or for a second time
 pub data Event (G : Type 0) : Type 0 where
@@ -45,11 +45,11 @@ module _ {G : Type 0} (evals : Work G → Outcome G → Type 0) where
 
   -- a call on a sound state leaves a sound one
   abbrev pub CallsKeepSound : (Work G → Type 0) → Type 0
-  CallsKeepSound is_work = (s : MachineState G) (e : Event G) (new : MachineState G) → IsHonest e → Steps s e new → IsSound is_work evals s → IsSound is_work evals new
+  CallsKeepSound is_work = (s : MachineState G) (e : Event G) (new : MachineState G) → IsHonest e → Steps s e new → IsSoundState is_work evals s → IsSoundState is_work evals new
 
   -- from the start of a work, whatever happens, each state is sound
   abbrev pub RunsStaySound : (Work G → Type 0) → Work G → Type 0
-  RunsStaySound is_work work = (es : List (Event G)) (end : MachineState G) → AllHonest es → Runs (opening work) es end → IsSound is_work evals end
+  RunsStaySound is_work work = (es : List (Event G)) (end : MachineState G) → AllHonest es → Runs (opening work) es end → IsSoundState is_work evals end
 
   -- and whatever is answered is an outcome that the work gives
   abbrev pub RunsAnswerTruly : Work G → Type 0

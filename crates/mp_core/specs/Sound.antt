@@ -33,14 +33,14 @@ Yields evals (node.Done p) o = o ≡ p
 
 -- the node has only works that calls may be given, no epoch in it is still to be drawn, and it yields only what the
 -- root work gives
-pub record IsSound {G : Type 0} (is_work : Work G → Type 0) (evals : Work G → Outcome G → Type 0) (s : MachineState G) : Type 0 where
+pub record IsSoundState {G : Type 0} (is_work : Work G → Type 0) (evals : Work G → Outcome G → Type 0) (s : MachineState G) : Type 0 where
   pub works : EachWork is_work s.node
   pub epochs : EpochsBelow (s.drawn + 1) s.node
   pub yields : (o : Outcome G) → Yields evals s.node o → evals s.work o
 
 -- the machine of the core is sound for the core's problem, by the good goals and the steps of the logic
 abbrev pub IsSoundCore : {L J G : Type 0} → (L → G → Bool) → (L → J → G → steps.Outcome G) → CoreState L J G → Type 0
-IsSoundCore good step core = IsSound (IsWork (good core.logic) core.tacs) (Evals (step core.logic) core.justs core.tacs) core.machine
+IsSoundCore good step core = IsSoundState (IsWork (good core.logic) core.tacs) (Evals (step core.logic) core.justs core.tacs) core.machine
 
 -- a ticket that is handed out has such a work
 abbrev pub TicketHas : {G : Type 0} → (Work G → Type 0) → Claimed G → Type 0

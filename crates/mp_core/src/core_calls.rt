@@ -4,6 +4,7 @@ ghost use Rattle.mp_core.specs.Machine.{opening, claimed_by, reissued, next_for,
 ghost use Rattle.mp_core.specs.Nodes.{claim_by};
 ghost use Rattle.mp_core.specs.Cores.{moved, started};
 ghost use Rattle.mp_core.specs.Sound.{IsSoundCore, TicketHas};
+ghost use Rattle.mp_strategy.specs.Laws.{IsSound};
 ghost use Rattle.mp_strategy.specs.Strategies.{Evals};
 ghost use Rattle.mp_strategy.specs.Works.{IsWork};
 
@@ -190,6 +191,7 @@ impl<'p, L: Logic> Core<'p, L> {
     pub fn answer(&self) -> Option<&Outcome<L::Goal>>
         ensures answer { option_copied result ≡ answer_of self.now.machine }
         ensures sound { IsSoundCore L.good L.step_of self.now → IfSome result (λ o. Evals (L.step_of self.now.logic) self.now.justs self.now.tacs self.now.machine.work o.now) }
+        ensures valid { IsSoundCore L.good L.step_of self.now → IfSome result (λ o. IsSound (L.step_of self.now.logic) self.now.justs self.now.machine.work.fuel self.now.machine.work.goal o.now) }
     {
         match &self.root {
             Root::Done(outcome) => Some(outcome),

@@ -1,0 +1,3 @@
+pub mod Outcomes
+pub mod Rounding
+pub mod Scheduling

@@ -1,0 +1,5 @@
+pub mod Ranges
+pub mod Ready
+pub mod Rounds
+pub mod Trace
+pub mod Workers

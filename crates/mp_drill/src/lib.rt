@@ -1,0 +1,15 @@
+//! The core under a schedule: workers claim, report, repeat, die and are lost as a list of events says.
+#![tactic(auto)]
+
+mod drilling;
+mod ranges;
+mod rounds;
+mod schedule;
+mod workers;
+
+pub use drilling::drill;
+pub use ranges::in_range;
+pub use schedule::{Event, Reply};
+
+#[cfg(test)]
+mod tests;
