@@ -1,6 +1,5 @@
-use crate::{
-    Action, RawEvent, RawSection, Script, ThinErr, read_schedule, read_script, read_theory,
-};
+use crate::{Script, Section, ThinErr, read_schedule, read_script, read_theory};
+use mp_drill::Event;
 use mp_logic::{JustId, List, Sym};
 use mp_names::Names;
 use mp_refiner::{Just, Theory};
@@ -27,7 +26,7 @@ fn script(alloc: Global, names: &mut Names, source: &[u8]) -> Result<Script, Thi
 }
 
 /// Reads a schedule for a script with the goal `g`, whose number is 0.
-fn schedule(alloc: Global, source: &[u8]) -> Result<Option<RawSection>, ThinErr> {
+fn schedule(alloc: Global, source: &[u8]) -> Result<List<Section>, ThinErr> {
     let mut names = Names::new(alloc);
     let Ok(goal) = names.number(alloc, b"g") else {
         return Err(ThinErr::NoMemory);
@@ -158,25 +157,21 @@ fn scripts_that_break_a_rule_are_refused(rt: HostRuntime) {
 fn events_stand_in_the_order_of_the_text(rt: HostRuntime) -> Result<(), Fail> {
     let alloc = rt.alloc();
     let source = b"goal g claim 1 send 0 again 64 die 2 lose 3 reissue";
-    let section = schedule(alloc, source)
-        .ok()
-        .ok_or("refused")?
-        .ok_or("no section")?;
+    let sections = schedule(alloc, source).ok().ok_or("refused")?;
+    assert_eq!(rt; sections.len(), 1);
+    let section = sections.get(0).ok_or("no section")?;
     assert_eq!(rt; section.goal, Sym(0));
     assert_eq!(rt; section.events.len(), 6);
-    for (place, action, worker) in [
-        (0u64, Action::Claim, 1i64),
-        (1, Action::Send, 0),
-        (2, Action::Again, 64),
-        (3, Action::Die, 2),
-        (4, Action::Lose, 3),
+    for (place, event) in [
+        (0u64, Event::Claim(1)),
+        (1, Event::Send { who: 0, units: 256 }),
+        (2, Event::Again(64)),
+        (3, Event::Die(2)),
+        (4, Event::Lose(3)),
+        (5, Event::Reissue),
     ] {
-        assert_eq!(rt;
-            section.events.get(place).copied(),
-            Some(RawEvent::Act { action, worker })
-        );
+        assert_eq!(rt; section.events.get(place).copied(), Some(event));
     }
-    assert_eq!(rt; section.events.get(5).copied(), Some(RawEvent::Reissue));
     Ok(())
 }
 
