@@ -10,9 +10,9 @@ use Rattle.mp_thintext.specs.declared.fail.ThinErr.{ThinErr}
 use Rattle.mp_thintext.specs.declared.fail.ThinErr.TheVariants as thin
 use Rattle.mp_thintext.specs.declared.script.Script.{Script}
 use Rattle.mp_logic.specs.declared.sym.Sym.{Sym}
-use Rattle.mp_thintext.specs.declared.raw.RawSection.{RawSection}
+use Rattle.mp_thintext.specs.declared.schedule.Section.{Section}
 use Rattle.mp_thintext.specs.Grammar.{IsTheory, StuckTheory, IsScript, StuckScript, IsSchedule, StuckSchedule}
-use Rattle.mp_thintext.specs.Values.{rules_of, is_theory, keeps_rules, script_of, is_schedule}
+use Rattle.mp_thintext.specs.Values.{rules_of, is_theory, keeps_rules, script_of, is_schedule, schedule_of}
 
 -- a comment begins somewhere
 abbrev pub has_comment : List ℕ → Bool
@@ -65,8 +65,8 @@ abbrev pub ReadsScript : List Rule → List (List ℕ) → List ℕ → Result S
 ReadsScript rules = ReadsText IsScript StuckScript (keeps_rules rules) (script_of rules)
 
 -- a schedule is read for a script with these goals
-abbrev pub ReadsSchedule : List Sym → List (List ℕ) → List ℕ → Result (Option RawSection) ThinErr → List (List ℕ) → Type 0
-ReadsSchedule goals = ReadsText IsSchedule StuckSchedule (is_schedule goals) (λ s. s)
+abbrev pub ReadsSchedule : List Sym → List (List ℕ) → List ℕ → Result (List Section) ThinErr → List (List ℕ) → Type 0
+ReadsSchedule goals = ReadsText IsSchedule StuckSchedule (is_schedule goals) schedule_of
 
 -- one thing is written in a thin text, and no text is both thin and refused
 abbrev pub OneText : {X : Type 0} → (X → List Word → List Word → Type 0) → (List Word → List Word → Type 0) → (X → Bool) → Type 0

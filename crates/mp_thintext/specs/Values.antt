@@ -23,6 +23,10 @@ use Rattle.mp_thintext.specs.declared.raw.RawEvent.{RawEvent}
 use Rattle.mp_thintext.specs.declared.raw.RawEvent.TheVariants as event
 use Rattle.mp_thintext.specs.declared.raw.Action.{Action}
 use Rattle.mp_thintext.specs.declared.raw.Action.TheVariants as action
+use Rattle.mp_drill.specs.declared.schedule.Event.{Event}
+use Rattle.mp_drill.specs.declared.schedule.Event.TheVariants as drill
+use Rattle.mp_drill.specs.Ranges.{are_in_range}
+use Rattle.mp_thintext.specs.declared.schedule.Section.{Section}
 use Rattle.mp_thintext.specs.declared.fail.ThinErr.{ThinErr}
 use Rattle.mp_thintext.specs.declared.fail.ThinErr.TheVariants as thin
 use Rattle.mp_thintext.specs.declared.script.Entry.{Entry}
@@ -158,3 +162,29 @@ is_goal goals name = list_any (λ goal. nat_eq goal.0 name.0) goals
 abbrev pub is_schedule : List Sym → Option RawSection → Bool
 is_schedule goals None = true
 is_schedule goals (Some s) = is_goal goals s.goal && list_all event_fits s.events
+
+-- a send has 256 units
+abbrev pub event_by : Action → ℕ → Event
+event_by action.Claim who = drill.Claim who
+event_by action.Send who = drill.Send who 256
+event_by action.Again who = drill.Again who
+event_by action.Die who = drill.Die who
+event_by action.Lose who = drill.Lose who
+
+-- the event that is written
+abbrev pub event_of : RawEvent → Event
+event_of (event.Act a worker) = event_by a (nat_abs worker)
+event_of event.Reissue = drill.Reissue
+
+abbrev pub section_of : RawSection → Section
+section_of s = record { goal = s.goal; events = map event_of s.events }
+
+-- the schedule that is written
+abbrev pub schedule_of : Option RawSection → List Section
+schedule_of None = []
+schedule_of (Some s) = section_of s ∷ []
+
+-- each section's events are in range
+abbrev pub EachInRange : List Section → Type 0
+EachInRange [] = ⊤
+EachInRange (s ∷ ss) = IsTrue (are_in_range s.events) × EachInRange ss

@@ -21,6 +21,9 @@ pub use laws::{one_reading, one_text};
 pub use parts::ReadFail;
 pub use raw::{Action, Form, RawEvent, RawPattern, RawRule, RawScript, RawSection};
 pub use reading::{read_schedule, read_script, read_theory};
-pub use schedule::parse_schedule;
+pub use schedule::{Section, parse_schedule};
 pub use script::{Entry, Script, parse_script};
 pub use theory::parse_theory;
+
+#[cfg(test)]
+mod tests;

@@ -1,11 +1,18 @@
-ghost use Rattle.std.specs.Prelude.{◌≡◌, IfOk};
+ghost use Rattle.std.specs.Prelude.{◌≡◌, map, true, false, IfOk, IfSome, IsTrue, MatchOption};
 ghost use Rattle.std.specs.List.{list_all};
-ghost use Rattle.mp_thintext.specs.Values.{Decides, least_worker, event_fits, is_goal, is_schedule};
+ghost use Rattle.mp_drill.specs.Ranges.{is_in_range, are_in_range};
+ghost use Rattle.mp_thintext.specs.Values.{Decides, EachInRange, least_worker, event_fits, event_by, event_of, is_goal, is_schedule, schedule_of, section_of};
 
 use crate::fail::ThinErr;
 use crate::raw::{Action, RawEvent, RawSection};
+use crate::schedule::Section;
 use crate::value::number_in;
+use mp_drill::Event;
 use mp_logic::{List, Sym};
+use std::alloc::Global;
+
+/// What a send does of its job.
+const UNITS: u32 = 256;
 
 fn least_worker(action: Action) -> u32
     ensures { result ≡ least_worker action }
@@ -16,24 +23,48 @@ fn least_worker(action: Action) -> u32
     }
 }
 
-fn event_fits(event: &RawEvent) -> bool
-    ensures { result ≡ event_fits event.now }
+fn event_by(action: Action, who: u32) -> Event
+    ensures { result ≡ event_by action who }
 {
-    match event {
-        RawEvent::Act { action, worker } => number_in(least_worker(*action), 64, *worker).is_some(),
-        RawEvent::Reissue => true,
+    match action {
+        Action::Claim => Event::Claim(who),
+        Action::Send => Event::Send { who, units: UNITS },
+        Action::Again => Event::Again(who),
+        Action::Die => Event::Die(who),
+        Action::Lose => Event::Lose(who),
     }
 }
 
-fn events_fit(events: &List<RawEvent>) -> bool
-    ensures { result ≡ list_all event_fits events.now }
+/// The event that is written, if its worker is in range.
+fn make_event(raw: &RawEvent) -> Option<Event>
+    ensures event { MatchOption result (event_fits raw.now ≡ false) (λ event. (event_fits raw.now ≡ true) × (event ≡ event_of raw.now)) }
+    ensures range { IfSome result (λ event. IsTrue (is_in_range event)) }
 {
-    for event in events.as_slice() {
-        if !event_fits(event) {
-            return false;
+    match raw {
+        RawEvent::Act { action, worker } => match number_in(least_worker(*action), 64, *worker) {
+            Some(who) => Some(event_by(*action, who)),
+            None => None,
+        },
+        RawEvent::Reissue => Some(Event::Reissue),
+    }
+}
+
+fn make_events(alloc: Global, raws: &List<RawEvent>) -> Result<List<Event>, ThinErr>
+    ensures rules { Decides (list_all event_fits raws.now) result }
+    ensures value { IfOk result (λ events. events ≡ map event_of raws.now) }
+    ensures range { IfOk result (λ events. IsTrue (are_in_range events)) }
+{
+    let mut events = List::new(alloc);
+    for raw in raws.as_slice() {
+        let Some(event) = make_event(raw) else {
+            return Err(ThinErr::Refused);
+        };
+        match events.push(event) {
+            Ok(()) => {}
+            Err(_) => return Err(ThinErr::NoMemory),
         }
     }
-    true
+    Ok(events)
 }
 
 fn is_goal(goals: &List<Sym>, name: Sym) -> bool
@@ -47,26 +78,33 @@ fn is_goal(goals: &List<Sym>, name: Sym) -> bool
     false
 }
 
-fn keeps_rules(goals: &List<Sym>, raw: &Option<RawSection>) -> bool
-    ensures { result ≡ is_schedule goals.now raw.now }
-{
-    match raw {
-        Some(section) => is_goal(goals, section.goal) && events_fit(&section.events),
-        None => true,
-    }
-}
-
-/// The schedule, if it keeps the static rules.
-pub(crate) fn keep_schedule(
+/// The schedule that is written, if it keeps the static rules.
+pub(crate) fn make_schedule(
+    alloc: Global,
     goals: &List<Sym>,
-    raw: Option<RawSection>,
-) -> Result<Option<RawSection>, ThinErr>
-    ensures rules { Decides (is_schedule goals.now raw) result }
-    ensures value { IfOk result (λ kept. kept ≡ raw) }
+    raw: &Option<RawSection>,
+) -> Result<List<Section>, ThinErr>
+    ensures rules { Decides (is_schedule goals.now raw.now) result }
+    ensures value { IfOk result (λ sections. sections ≡ schedule_of raw.now) }
+    ensures range { IfOk result EachInRange }
 {
-    if keeps_rules(goals, &raw) {
-        Ok(raw)
-    } else {
-        Err(ThinErr::Refused)
+    let mut sections = List::new(alloc);
+    if let Some(raw) = raw {
+        if !is_goal(goals, raw.goal) {
+            return Err(ThinErr::Refused);
+        }
+        let events = match make_events(alloc, &raw.events) {
+            Ok(events) => events,
+            Err(fail) => return Err(fail),
+        };
+        let section = Section {
+            goal: raw.goal,
+            events,
+        };
+        match sections.push(section) {
+            Ok(()) => {}
+            Err(_) => return Err(ThinErr::NoMemory),
+        }
     }
+    Ok(sections)
 }

@@ -1,13 +1,12 @@
-ghost use Rattle.std.specs.Prelude.{◌<◌, ◌+◌, ◌-◌, ◌^◌, length, IfOk};
-ghost use Rattle.mp_thintext.specs.Values.{EachGood};
+ghost use Rattle.std.specs.Prelude.{◌<◌, ◌≤◌, ◌+◌, ◌-◌, ◌^◌, length, IfOk};
+ghost use Rattle.mp_thintext.specs.Values.{EachGood, EachInRange};
 ghost use Rattle.mp_thintext.specs.Texts.{ReadsTheory, ReadsScript, ReadsSchedule};
 
 use crate::fail::ThinErr;
 use crate::making::{make_script, make_theory};
 use crate::parts::ReadFail;
-use crate::ranges::keep_schedule;
-use crate::raw::RawSection;
-use crate::schedule::parse_schedule;
+use crate::ranges::make_schedule;
+use crate::schedule::{Section, parse_schedule};
 use crate::script::{Script, parse_script};
 use crate::text::text_words;
 use crate::theory::parse_theory;
@@ -17,10 +16,12 @@ use mp_refiner::Theory;
 use std::alloc::Global;
 
 /// Reads a theory. Refused is exactly what isn't thin: a text with a comment, a lexical fault, words that aren't
-/// in the grammar, or a rule whose name stands before it or that has a fault. Earlier names keep their numbers.
+/// in the grammar, or a rule whose name stands before it or that has a fault. Earlier names keep their
+/// numbers, and at most as many are added as the text has bytes.
 pub fn read_theory(alloc: Global, names: &mut Names, source: &[u8]) -> Result<Theory, ThinErr>
     requires room { length names.old + length source.now < 2 ^ 32 - 1 }
-    ensures { ReadsTheory names.old source.now result names.new }
+    ensures reads { ReadsTheory names.old source.now result names.new }
+    ensures few { length names.new ≤ length names.old + length source.now }
 {
     let words = text_words(alloc, names, source)?;
     match parse_theory(alloc, words.as_slice()) {
@@ -32,7 +33,8 @@ pub fn read_theory(alloc: Global, names: &mut Names, source: &[u8]) -> Result<Th
 
 /// Reads a script in a theory. Refused is exactly what isn't thin: a text with a comment, a lexical fault, words
 /// that aren't in the grammar, a fuel over 400, a goal over the limits, more than 64 steps, or a rule that isn't
-/// in the theory. Earlier names keep their numbers.
+/// in the theory. Earlier names keep their
+/// numbers, and at most as many are added as the text has bytes.
 pub fn read_script(
     alloc: Global,
     names: &mut Names,
@@ -41,6 +43,7 @@ pub fn read_script(
 ) -> Result<Script, ThinErr>
     requires room { length names.old + length source.now < 2 ^ 32 - 1 }
     ensures reads { ReadsScript theory.now names.old source.now result names.new }
+    ensures few { length names.new ≤ length names.old + length source.now }
     ensures good { IfOk result (λ script. EachGood theory.now script.entries) }
 {
     let words = text_words(alloc, names, source)?;
@@ -53,19 +56,21 @@ pub fn read_script(
 
 /// Reads a schedule for a script with these goals. Refused is exactly what isn't thin: a text with a comment, a
 /// lexical fault, words that aren't in the grammar, another goal, or a worker out of its range. Earlier names keep
-/// their numbers.
+/// their numbers, and at most as many are added as the text has bytes.
 pub fn read_schedule(
     alloc: Global,
     names: &mut Names,
     goals: &List<Sym>,
     source: &[u8],
-) -> Result<Option<RawSection>, ThinErr>
+) -> Result<List<Section>, ThinErr>
     requires room { length names.old + length source.now < 2 ^ 32 - 1 }
-    ensures { ReadsSchedule goals.now names.old source.now result names.new }
+    ensures reads { ReadsSchedule goals.now names.old source.now result names.new }
+    ensures few { length names.new ≤ length names.old + length source.now }
+    ensures range { IfOk result EachInRange }
 {
     let words = text_words(alloc, names, source)?;
     match parse_schedule(alloc, words.as_slice()) {
-        Ok(raw) => keep_schedule(goals, raw),
+        Ok(raw) => make_schedule(alloc, goals, &raw),
         Err(ReadFail::Stuck(_)) => Err(ThinErr::Refused),
         Err(ReadFail::NoMemory) => Err(ThinErr::NoMemory),
     }

@@ -4,9 +4,17 @@ ghost use Rattle.mp_thintext.specs.Grammar.{IsEvent, StuckEvent, IsSection, Stuc
 
 use crate::parts::{ReadFail, action, number, read_named, stuck, word};
 use crate::raw::{RawEvent, RawSection};
-use mp_logic::List;
+use mp_drill::Event;
+use mp_logic::{List, Sym};
 use mp_termtext::{Keyword, Word};
 use std::alloc::Global;
+
+/// The events of a goal.
+#[derive(Drop)]
+pub struct Section {
+    pub goal: Sym,
+    pub events: List<Event>,
+}
 
 fn read_event(words: &[Word]) -> Result<(RawEvent, &[Word]), ReadFail>
     ensures reads { Reads (λ x. (x.0, x.1.now)) IsEvent StuckEvent words.now result }

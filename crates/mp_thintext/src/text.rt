@@ -31,6 +31,7 @@ pub(crate) fn text_words(
     ensures table { OnOk result (names.new ≡ names_in names.old source.now) }
     ensures grown { Extends names.old names.new }
     ensures few { IfOk result (λ ws. length ws ≤ length source.now) }
+    ensures few_names { length names.new ≤ length names.old + length source.now }
 {
     if has_comment(source) {
         return Err(ThinErr::Refused);
