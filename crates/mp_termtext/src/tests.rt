@@ -1,9 +1,5 @@
-<<<<<<< HEAD
 use crate::{Keyword, Mark, Word, print_sequent, print_term, words};
 use mp_lex::tokens;
-=======
-use crate::{print_sequent, print_term};
->>>>>>> 06ba5f0083b5d26885fac1340d3dbeedf2315bf5
 use mp_logic::{List, Sym};
 use mp_names::Names;
 use mp_term::{Bound, Param, Sequent, Term};
@@ -136,7 +132,6 @@ fn parameters_and_several_binders(rt: HostRuntime) -> Result<(), Fail> {
     assert_eq!(rt; text.as_slice(), b">- nat".as_slice());
     Ok(())
 }
-<<<<<<< HEAD
 
 // The words of a source, in a table that goes on from what it has.
 fn read(alloc: Global, names: &mut Names, source: &[u8]) -> Result<List<Word>, Fail> {
@@ -302,5 +297,3 @@ fn the_ends_of_64_bits_are_numbers(rt: HostRuntime) -> Result<(), Fail> {
     assert_eq!(rt; read_words.as_slice(), want.as_slice());
     Ok(())
 }
-=======
->>>>>>> 06ba5f0083b5d26885fac1340d3dbeedf2315bf5
