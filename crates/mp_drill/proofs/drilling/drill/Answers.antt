@@ -68,8 +68,8 @@ returns-clause-trace g c =
     let rounds = subst (λ ev. Rounds ev core.machine c.in_ok-outcome.outcome) (ap (λ (k : CoreState _ _ _). eval (g.L.Logic.step_of k.logic) k.justs k.tacs) c.loop-event.invariant.same) c.in_ok-outcome.ensures in
     let past : length c.as_slice-event-items.result.now ≤ c.loop-event.event-index = omega arith in
     let trace : IsTrace each work c.args.events.now c.loop-event.replies c.in_ok-outcome.outcome =
-        whole_trace each work (world core.machine c.loop-event.session.workers.items) c.args.events.now c.as_slice-event-items.result.now c.loop-event.replies c.loop-event.event-index c.in_ok-outcome.outcome
-          c.as_slice-event-items.ensures past c.loop-event.invariant.onward rounds in
+    whole_trace each work (world core.machine c.loop-event.session.workers.items) c.args.events.now c.as_slice-event-items.result.now c.loop-event.replies c.loop-event.event-index c.in_ok-outcome.outcome
+    c.as_slice-event-items.ensures past c.loop-event.invariant.onward rounds in
     trace
 
 pub returns-clause-outcome : goal.returns-clause-outcome
@@ -81,8 +81,8 @@ returns-clause-outcome g c =
     let rounds = subst (λ ev. Rounds ev core.machine c.in_ok-outcome.outcome) (ap (λ (k : CoreState _ _ _). eval (g.L.Logic.step_of k.logic) k.justs k.tacs) c.loop-event.invariant.same) c.in_ok-outcome.ensures in
     let past : length c.as_slice-event-items.result.now ≤ c.loop-event.event-index = omega arith in
     let trace : IsTrace each work c.args.events.now c.loop-event.replies c.in_ok-outcome.outcome =
-        whole_trace each work (world core.machine c.loop-event.session.workers.items) c.args.events.now c.as_slice-event-items.result.now c.loop-event.replies c.loop-event.event-index c.in_ok-outcome.outcome
-          c.as_slice-event-items.ensures past c.loop-event.invariant.onward rounds in
+    whole_trace each work (world core.machine c.loop-event.session.workers.items) c.args.events.now c.as_slice-event-items.result.now c.loop-event.replies c.loop-event.event-index c.in_ok-outcome.outcome
+    c.as_slice-event-items.ensures past c.loop-event.invariant.onward rounds in
     let is : c.in_ok-outcome.outcome ≡ each work = trace_gives_eval each work c.args.events.now c.loop-event.replies c.in_ok-outcome.outcome trace in
     is
 
@@ -95,11 +95,11 @@ returns-clause-relation g c =
     let rounds = subst (λ ev. Rounds ev core.machine c.in_ok-outcome.outcome) (ap (λ (k : CoreState _ _ _). eval (g.L.Logic.step_of k.logic) k.justs k.tacs) c.loop-event.invariant.same) c.in_ok-outcome.ensures in
     let past : length c.as_slice-event-items.result.now ≤ c.loop-event.event-index = omega arith in
     let trace : IsTrace each work c.args.events.now c.loop-event.replies c.in_ok-outcome.outcome =
-        whole_trace each work (world core.machine c.loop-event.session.workers.items) c.args.events.now c.as_slice-event-items.result.now c.loop-event.replies c.loop-event.event-index c.in_ok-outcome.outcome
-          c.as_slice-event-items.ensures past c.loop-event.invariant.onward rounds in
+    whole_trace each work (world core.machine c.loop-event.session.workers.items) c.args.events.now c.as_slice-event-items.result.now c.loop-event.replies c.loop-event.event-index c.in_ok-outcome.outcome
+    c.as_slice-event-items.ensures past c.loop-event.invariant.onward rounds in
     let is : c.in_ok-outcome.outcome ≡ each work = trace_gives_eval each work c.args.events.now c.loop-event.replies c.in_ok-outcome.outcome trace in
     let relation = subst (λ o. Evals (g.L.Logic.step_of problem.logic.now) problem.justs problem.tacs work o) (sym is)
-        (evals_in (g.L.Logic.step_of problem.logic.now) problem.justs (length problem.justs) 0 problem.tacs work.tac.0 work.left (rows_of (length problem.justs) problem.tacs problem.fits) c.requires.work.tac work.fuel work.goal) in
+    (evals_in (g.L.Logic.step_of problem.logic.now) problem.justs (length problem.justs) 0 problem.tacs work.tac.0 work.left (rows_of (length problem.justs) problem.tacs problem.fits) c.requires.work.tac work.fuel work.goal) in
     relation
 
 pub returns-clause-valid : goal.returns-clause-valid
@@ -111,11 +111,11 @@ returns-clause-valid g c =
     let rounds = subst (λ ev. Rounds ev core.machine c.in_ok-outcome.outcome) (ap (λ (k : CoreState _ _ _). eval (g.L.Logic.step_of k.logic) k.justs k.tacs) c.loop-event.invariant.same) c.in_ok-outcome.ensures in
     let past : length c.as_slice-event-items.result.now ≤ c.loop-event.event-index = omega arith in
     let trace : IsTrace each work c.args.events.now c.loop-event.replies c.in_ok-outcome.outcome =
-        whole_trace each work (world core.machine c.loop-event.session.workers.items) c.args.events.now c.as_slice-event-items.result.now c.loop-event.replies c.loop-event.event-index c.in_ok-outcome.outcome
-          c.as_slice-event-items.ensures past c.loop-event.invariant.onward rounds in
+    whole_trace each work (world core.machine c.loop-event.session.workers.items) c.args.events.now c.as_slice-event-items.result.now c.loop-event.replies c.loop-event.event-index c.in_ok-outcome.outcome
+    c.as_slice-event-items.ensures past c.loop-event.invariant.onward rounds in
     let is : c.in_ok-outcome.outcome ≡ each work = trace_gives_eval each work c.args.events.now c.loop-event.replies c.in_ok-outcome.outcome trace in
     let relation = subst (λ o. Evals (g.L.Logic.step_of problem.logic.now) problem.justs problem.tacs work o) (sym is)
-        (evals_in (g.L.Logic.step_of problem.logic.now) problem.justs (length problem.justs) 0 problem.tacs work.tac.0 work.left (rows_of (length problem.justs) problem.tacs problem.fits) c.requires.work.tac work.fuel work.goal) in
+    (evals_in (g.L.Logic.step_of problem.logic.now) problem.justs (length problem.justs) 0 problem.tacs work.tac.0 work.left (rows_of (length problem.justs) problem.tacs problem.fits) c.requires.work.tac work.fuel work.goal) in
     sound_in (g.L.Logic.step_of problem.logic.now) problem.justs 0 problem.tacs work.tac.0 work.left work.fuel work.goal c.in_ok-outcome.outcome relation
 
 pub returns-clause-length : goal.returns-clause-length
@@ -127,6 +127,6 @@ returns-clause-length g c =
     let rounds = subst (λ ev. Rounds ev core.machine c.in_ok-outcome.outcome) (ap (λ (k : CoreState _ _ _). eval (g.L.Logic.step_of k.logic) k.justs k.tacs) c.loop-event.invariant.same) c.in_ok-outcome.ensures in
     let past : length c.as_slice-event-items.result.now ≤ c.loop-event.event-index = omega arith in
     let trace : IsTrace each work c.args.events.now c.loop-event.replies c.in_ok-outcome.outcome =
-        whole_trace each work (world core.machine c.loop-event.session.workers.items) c.args.events.now c.as_slice-event-items.result.now c.loop-event.replies c.loop-event.event-index c.in_ok-outcome.outcome
-          c.as_slice-event-items.ensures past c.loop-event.invariant.onward rounds in
+    whole_trace each work (world core.machine c.loop-event.session.workers.items) c.args.events.now c.as_slice-event-items.result.now c.loop-event.replies c.loop-event.event-index c.in_ok-outcome.outcome
+    c.as_slice-event-items.ensures past c.loop-event.invariant.onward rounds in
     replies_length each (first_world work) c.args.events.now c.loop-event.replies trace.0 trace.1

@@ -37,8 +37,8 @@ returns-in-Finished g c =
     let given : claimed.Finished ≡ (next_for s.machine).0 = sym c.in-Finished.is ∙ c.in_ok-ticket.ensures.reply in
     let after : n.machine ≡ (next_for s.machine).1 = ap (λ (k : CoreState _ _ _). k.machine) c.in_ok-ticket.ensures.state in
     if_ok_by (λ o. o ≡ c.in-Some.outcome.now) (λ o. Rounds (each c.args.core) c.args.core.machine o) c.copy_outcome.result
-      (λ o e. c.loop-core.invariant.onward o (at_finish (each c.args.core) s.machine n.machine o given after (ap (λ q. Some q) e ∙ c.in-Some.ensures.answer)))
-      c.copy_outcome.ensures
+    (λ o e. c.loop-core.invariant.onward o (at_finish (each c.args.core) s.machine n.machine o given after (ap (λ q. Some q) e ∙ c.in-Some.ensures.answer)))
+    c.copy_outcome.ensures
 
 pub returns-in-Spent : goal.returns-in-Spent
 returns-in-Spent g c =
@@ -50,5 +50,5 @@ returns-in-Spent g c =
     let w = c.work.result.now in
     let problem = c.problem-problem.result.now in
     if_ok_by (λ o. o ≡ eval (g.L.Logic.step_of problem.logic.now) problem.justs problem.tacs w) (λ o. Rounds (each c.args.core) c.args.core.machine o) c.evaluate.result
-      (λ o e. c.loop-core.invariant.onward o (at_spent (each c.args.core) s.machine n.machine w o given after c.work.ensures (e ∙ ap (λ (k : CoreState _ _ _). each k w) (sym c.problem-problem.ensures))))
-      c.evaluate.ensures.value
+    (λ o e. c.loop-core.invariant.onward o (at_spent (each c.args.core) s.machine n.machine w o given after c.work.ensures (e ∙ ap (λ (k : CoreState _ _ _). each k w) (sym c.problem-problem.ensures))))
+    c.evaluate.ensures.value

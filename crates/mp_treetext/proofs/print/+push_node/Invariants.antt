@@ -6,5 +6,5 @@ abbrev pub invariant-loop-kid : goal.invariant-loop-kid
 invariant-loop-kid l = record {
   indent : l.indent.items ≡ l.fn.indent.items ++ codes "  ";
   text : l.out.items ++ all_indented (l.fn.indent.items ++ codes "  ") (map (tree_text l.fn.names l.fn.theory l.fn.justs) (drop l.kid-index l.kid-items))
-    ≡ l.fn.out.items ++ tree_text l.fn.names l.fn.theory l.fn.justs l.fn.tree l.fn.indent.items;
+      ≡ l.fn.out.items ++ tree_text l.fn.names l.fn.theory l.fn.justs l.fn.tree l.fn.indent.items;
 }
