@@ -1,3 +1,4 @@
+pub mod Existence
 pub mod Outcomes
 pub mod Rounding
 pub mod Scheduling

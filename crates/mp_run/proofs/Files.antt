@@ -1,0 +1,76 @@
+-- How the readings of the files, one after the other, make the answer.
+use Rattle.std.proofs.Common.{◌≡◌, ℕ, ◌≤◌, ◌<◌, length, ◌⊎◌, inl, inr, List, Option, Some, None, Result, Ok, Err, refl, subst}
+use Rattle.mp_thintext.specs.declared.fail.ThinErr.{ThinErr}
+use Rattle.mp_run.specs.declared.file.FileKind.{FileKind}
+use Rattle.mp_run.specs.declared.stop.Stop.{Stop}
+use Rattle.mp_run.specs.declared.stop.Stop.TheVariants as stop
+use Rattle.mp_run.specs.Answers.{Answer, Refusal, Names, Reading, FileThen}
+use Rattle.mp_thintext.specs.declared.fail.ThinErr.TheVariants as thin
+use Rattle.mp_run.specs.declared.loading.Loaded.{Loaded}
+use Rattle.mp_run.specs.Loads.{LoadsSo}
+use Rattle.mp_run.specs.Lines.{limit_of, refused_line}
+use Rattle.mp_run.specs.Stops.{GivesBytes, GivesValue, StopsRead, StopsWith}
+
+module _ {V : Type 0} (kind : FileKind) (reads : Reading V) (next : V → Names → Answer → Type 0) where
+  -- the file ends the run
+  pub stops_here : (told : Option (List ℕ)) (names : Names) (st : Stop) → (let answer : Result V Stop = Err st in GivesValue told kind reads names answer) → StopsWith (FileThen kind told reads next) st
+  stops_here None names (stop.Refused line) h = tt
+  stops_here (Some bytes) names (stop.Refused line) h = inl (line, h, refl)
+  stops_here told names (stop.Fault file) h = tt
+  stops_here told names stop.NoMemory h = tt
+
+  -- the file says a value, and the rest answers
+  pub goes_on : (told : Option (List ℕ)) (names : Names) (value : V) (answer : Answer) → (let said : Result V Stop = Ok value in GivesValue told kind reads names said)
+      → next value names answer → FileThen kind told reads next answer
+  goes_on None names value answer h k = tt
+  goes_on (Some bytes) names value answer h k = inr (value, names, h, k)
+
+  -- the file says a value, and a later file ends the run
+  pub stops_later : (told : Option (List ℕ)) (names : Names) (value : V) (st : Stop) → (let said : Result V Stop = Ok value in GivesValue told kind reads names said)
+      → StopsWith (next value names) st → StopsWith (FileThen kind told reads next) st
+  stops_later told names value (stop.Refused line) h k = goes_on told names value (Refusal line) h k
+  stops_later told names value (stop.Fault file) h k = tt
+  stops_later told names value stop.NoMemory h k = tt
+
+says_of : {V : Type 0} (kind : FileKind) (reads : Reading V) (told : Option (List ℕ)) (text : List ℕ) (value : V) (names : Names)
+    → (let read : Result (List ℕ) Stop = Ok text in GivesBytes told kind read) → reads text (Ok value) names → (let said : Result V Stop = Ok value in GivesValue told kind reads names said)
+says_of kind reads None text value names h k = tt
+says_of {V} kind reads (Some bytes) text value names h k =
+    let P : List ℕ → Type 0 = λ x. (length x ≤ limit_of) × reads x (Ok value) names in
+    subst P h.1 (h.0, k)
+
+-- the bytes of the file are read, and say a value
+pub says_value : {V : Type 0} (kind : FileKind) (reads : Reading V) (told : Option (List ℕ)) (text slice : List ℕ) (value : V) (names : Names)
+    → (let read : Result (List ℕ) Stop = Ok text in GivesBytes told kind read) → slice ≡ text → reads slice (Ok value) names
+    → (let said : Result V Stop = Ok value in GivesValue told kind reads names said)
+says_value {V} kind reads told text slice value names h e k =
+    let P : List ℕ → Type 0 = λ x. reads x (Ok value) names in
+    says_of kind reads told text value names h (subst P e k)
+
+refused_by : {V : Type 0} (kind : FileKind) (reads : Reading V) (told : Option (List ℕ)) (text : List ℕ) (fail : ThinErr) (st : Stop) (names : Names)
+    → (let read : Result (List ℕ) Stop = Ok text in GivesBytes told kind read) → reads text (Err fail) names → StopsRead kind fail st
+    → (let said : Result V Stop = Err st in GivesValue told kind reads names said)
+refused_by kind reads None text thin.Refused (stop.Refused line) names h k s = tt
+refused_by {V} kind reads (Some bytes) text thin.Refused (stop.Refused line) names h k s =
+    let P : List ℕ → Type 0 = λ x. (length x ≤ limit_of) × ((after : Names) × reads x (Err thin.Refused) after) × (line ≡ refused_line kind) in
+    inr (subst P h.1 (h.0, (names, k), s))
+refused_by kind reads told text thin.Refused stop.NoMemory names h k s = tt
+refused_by kind reads told text thin.NoMemory stop.NoMemory names h k s = tt
+refused_by kind reads told text thin.Refused (stop.Fault file) names h k s = absurd s
+refused_by kind reads told text thin.NoMemory (stop.Fault file) names h k s = absurd s
+refused_by kind reads told text thin.NoMemory (stop.Refused line) names h k s = absurd s
+
+-- the bytes of the file are read, and say nothing
+pub says_nothing : {V : Type 0} (kind : FileKind) (reads : Reading V) (told : Option (List ℕ)) (text slice : List ℕ) (fail : ThinErr) (st : Stop) (names : Names)
+    → (let read : Result (List ℕ) Stop = Ok text in GivesBytes told kind read) → slice ≡ text → reads slice (Err fail) names → StopsRead kind fail st
+    → (let said : Result V Stop = Err st in GivesValue told kind reads names said)
+says_nothing {V} kind reads told text slice fail st names h e k s =
+    let P : List ℕ → Type 0 = λ x. reads x (Err fail) names in
+    refused_by kind reads told text fail st names h (subst P e k) s
+
+-- the files are loaded, or one of them ends the run
+pub loads_on : {V : Type 0} (kind : FileKind) (reads : Reading V) (next : V → Names → Answer → Type 0) (told : Option (List ℕ)) (names : Names) (value : V) (result : Result Loaded Stop)
+    → (let said : Result V Stop = Ok value in GivesValue told kind reads names said) → LoadsSo (next value names) result → LoadsSo (FileThen kind told reads next) result
+loads_on kind reads next told names value (Ok loaded) h k =
+    record { goals = k.goals; range = k.range; answers = λ answer a. goes_on kind reads next told names value answer h (k.answers answer a) }
+loads_on kind reads next told names value (Err st) h k = stops_later kind reads next told names value st h k

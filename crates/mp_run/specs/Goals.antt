@@ -1,0 +1,74 @@
+-- What is printed of the goals of a script.
+use Rattle.std.specs.Prelude.{◌≡◌, ℕ, ◌++◌, nat_eq, ◌&&◌, Bool, true, false, List, [], ◌∷◌, map, slice_get, Option, Some, None, if◌then◌else◌, ⊤}
+use Rattle.std.specs.List.{list_all}
+use Rattle.mp_logic.specs.declared.sym.Sym.{Sym}
+use Rattle.mp_logic.specs.Trees.{leaf_count_of}
+use Rattle.mp_term.specs.declared.sequent.Sequent.{Sequent}
+use Rattle.mp_refiner.specs.declared.rule.Rule.{Rule}
+use Rattle.mp_refiner.specs.Steps.{step_by}
+use Rattle.mp_strategy.specs.declared.work.Work.{Work}
+use Rattle.mp_strategy.specs.declared.outcome.Outcome.{Outcome}
+use Rattle.mp_strategy.specs.declared.outcome.Outcome.TheVariants as outcome
+use Rattle.mp_strategy.specs.Works.{work_of}
+use Rattle.mp_strategy.specs.Evaluation.{eval}
+use Rattle.mp_drill.specs.declared.schedule.Event.{Event}
+use Rattle.mp_drill.specs.declared.schedule.Reply.{Reply}
+use Rattle.mp_drill.specs.Trace.{IsTrace}
+use Rattle.mp_thintext.specs.declared.script.Entry.{Entry}
+use Rattle.mp_thintext.specs.declared.schedule.Section.{Section}
+use Rattle.mp_report.specs.Results.{result_text}
+use Rattle.mp_report.specs.Traces.{trace_text}
+use Rattle.mp_run.specs.declared.block.Block.{Block}
+use Rattle.mp_run.specs.Answers.{Names, Answer, Blocks}
+
+-- whether the outcome is a tree without open leaves
+abbrev pub is_closed : Outcome Sequent → Bool
+is_closed (outcome.Tree t) = nat_eq (leaf_count_of t) 0
+is_closed (outcome.Failure f) = false
+
+-- the work of a goal: its whole strategy, with its fuel
+abbrev pub goal_work : Entry → Work Sequent
+goal_work entry = work_of entry.tacs (record { 0 = 0 }) entry.fuel entry.goal
+
+-- what a work of the goal's strategies evaluates to, from left to right
+abbrev pub evaluate_in : List Rule → Entry → Work Sequent → Outcome Sequent
+evaluate_in rules entry = eval (step_by rules) entry.justs entry.tacs
+
+-- the outcome of a goal
+abbrev pub goal_outcome : List Rule → Entry → Outcome Sequent
+goal_outcome rules entry = evaluate_in rules entry (goal_work entry)
+
+-- the text of a goal's outcome
+abbrev pub goal_text : Names → List Rule → Entry → List ℕ
+goal_text names rules entry = result_text names rules entry.name entry.justs (goal_outcome rules entry)
+
+-- the events of the goal's section; none where it has none
+abbrev pub events_of : List Section → Sym → List Event
+events_of [] name = []
+events_of (s ∷ ss) name = if nat_eq s.goal.0 name.0 then s.events else events_of ss name
+
+-- a goal's block: the text of its outcome; where a schedule is drilled, behind the text of the replies to its events
+abbrev pub IsBlock : Names → List Rule → Option (List Section) → Entry → Block → Type 0
+IsBlock names rules None entry b = b ≡ record { text = goal_text names rules entry; closed = is_closed (goal_outcome rules entry) }
+IsBlock names rules (Some sections) entry b =
+    (replies : List Reply)
+    × IsTrace (evaluate_in rules entry) (goal_work entry) (events_of sections entry.name) replies (goal_outcome rules entry)
+    × (b ≡ record {
+      text = trace_text names entry.name (events_of sections entry.name) replies ++ goal_text names rules entry;
+      closed = is_closed (goal_outcome rules entry);
+    })
+
+-- a block for each goal, in order
+abbrev pub AreBlocks : (Entry → Block → Type 0) → List Entry → List Block → Type 0
+AreBlocks Is [] [] = ⊤
+AreBlocks Is (e ∷ es) (b ∷ bs) = Is e b × AreBlocks Is es bs
+AreBlocks Is [] (b ∷ bs) = ⊥
+AreBlocks Is (e ∷ es) [] = ⊥
+
+-- the answer of these blocks
+abbrev pub answer_of : List Block → Answer
+answer_of bs = Blocks (map (λ b. b.text) bs) (list_all (λ b. b.closed) bs)
+
+-- the goals are answered by their blocks
+abbrev pub GoalsAnswer : Names → List Rule → Option (List Section) → List Entry → Answer → Type 0
+GoalsAnswer names rules schedule entries answer = (bs : List Block) × AreBlocks (IsBlock names rules schedule) entries bs × (answer ≡ answer_of bs)

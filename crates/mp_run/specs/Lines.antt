@@ -1,0 +1,25 @@
+-- The lines that tell why a run ended before its goals.
+use Rattle.std.specs.Prelude.{ℕ, List, ◌++◌, codes}
+use Rattle.mp_run.specs.declared.file.FileKind.{FileKind}
+use Rattle.mp_run.specs.declared.file.FileKind.TheVariants.{Theory, Script, Schedule}
+
+-- the limit on the length of a file, in bytes
+abbrev pub limit_of : ℕ
+limit_of = 1048576
+
+abbrev pub name_of : FileKind → List ℕ
+name_of Theory = codes "theory"
+name_of Script = codes "script"
+name_of Schedule = codes "schedule"
+
+-- a file that is over the limit
+abbrev pub long_line : FileKind → List ℕ
+long_line file = codes "refused: " ++ name_of file ++ codes " is longer than 1048576 bytes\n"
+
+-- a file that isn't a text of its kind
+abbrev pub refused_line : FileKind → List ℕ
+refused_line file = codes "refused: " ++ name_of file ++ codes "\n"
+
+-- a file that couldn't be read
+abbrev pub fault_line : FileKind → List ℕ
+fault_line file = codes "fault: reading " ++ name_of file ++ codes "\n"

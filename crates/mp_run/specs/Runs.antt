@@ -1,0 +1,75 @@
+-- What a run may write under each status, and the causes of the statuses.
+use Rattle.std.specs.Prelude.{◌≡◌, ℕ, ◌⊎◌, Bool, true, false, List, [], ◌∷◌, ◌++◌, ⊤, Option, Some, None, Result, Ok, Err}
+use Rattle.std.specs.List.{flat_map}
+use Rattle.std.specs.Io.KnownBytes.{Appends}
+use Rattle.mp_ports.specs.Causes.{Rose}
+use Rattle.mp_run.specs.declared.file.FileKind.{FileKind}
+use Rattle.mp_run.specs.declared.file.Status.{Status}
+use Rattle.mp_run.specs.declared.file.Status.TheVariants as status
+use Rattle.mp_run.specs.Commands.{Command, usage_line}
+use Rattle.mp_run.specs.Lines.{fault_line}
+use Rattle.mp_run.specs.Answers.{Answer, Blocks, Refusal}
+
+-- the texts one after the other
+abbrev pub joined : List (List ℕ) → List ℕ
+joined texts = flat_map (λ text. text) texts
+
+-- the whole text of an answer, under its status
+abbrev pub Ends : Answer → Status → List ℕ → Type 0
+Ends (Blocks blocks true) s text = (s ≡ status.AllClosed) × (text ≡ joined blocks)
+Ends (Blocks blocks false) s text = (s ≡ status.NotAll) × (text ≡ joined blocks)
+Ends (Refusal line) s text = (s ≡ status.Refused) × (text ≡ line)
+
+module _ (IsAnswer : Answer → Type 0) where
+  -- an answer was written whole, under its status
+  abbrev pub EndsSo : Status → List ℕ → Type 0
+  EndsSo s text = (answer : Answer) × IsAnswer answer × Ends answer s text
+
+  -- what may be written in full: an answer, or the line that a file couldn't be read
+  abbrev pub MayWrite : List ℕ → Type 0
+  MayWrite text = ((s : Status) × EndsSo s text) ⊎ ((file : FileKind) × (text ≡ fault_line file))
+
+  -- the first bytes of that, maybe none
+  abbrev pub MayBegin : List ℕ → Type 0
+  MayBegin text = (rest : List ℕ) × MayWrite (text ++ rest)
+
+  -- each status with its text, where the words are a command's
+  abbrev pub CommandWrites : Status → List ℕ → Type 0
+  CommandWrites status.AllClosed text = EndsSo status.AllClosed text
+  CommandWrites status.NotAll text = EndsSo status.NotAll text
+  CommandWrites status.Refused text = EndsSo status.Refused text
+  CommandWrites status.ReadFault text = (file : FileKind) × (text ≡ fault_line file)
+  CommandWrites status.WriteFault text = MayBegin text
+  CommandWrites status.NoMemory text = MayBegin text
+  CommandWrites status.Usage text = ⊥
+
+  -- the whole answer was taken under its status, or memory ran out
+  abbrev pub Completes : Option (List ℕ) → Option (List ℕ) → Status → Type 0
+  Completes old new s = (s ≡ status.NoMemory) ⊎ ((text : List ℕ) × Appends old new text × EndsSo s text)
+
+-- and where they are not: the usage line, or the first bytes of it
+abbrev pub UsageWrites : Status → List ℕ → Type 0
+UsageWrites status.Usage text = text ≡ usage_line
+UsageWrites status.WriteFault text = (rest : List ℕ) × (text ++ rest ≡ usage_line)
+UsageWrites other text = ⊥
+
+abbrev pub RunWrites : (Command → Answer → Type 0) → Option Command → Status → List ℕ → Type 0
+RunWrites answers None s text = UsageWrites s text
+RunWrites answers (Some command) s text = CommandWrites (answers command) s text
+
+-- a fault comes only where its count rose, and another status, memory aside, only where no count rose
+abbrev pub RunCause : Status → (reads_before reads_now writes_before writes_now : ℕ) → Type 0
+RunCause status.ReadFault r r' w w' = Rose r r' × (w' ≡ w)
+RunCause status.WriteFault r r' w w' = Rose w w'
+RunCause status.NoMemory r r' w w' = ⊤
+RunCause other r r' w w' = (r' ≡ r) × (w' ≡ w)
+
+-- the exit status of the program
+abbrev pub number_of : Status → ℕ
+number_of status.AllClosed = 0
+number_of status.NotAll = 1
+number_of status.Usage = 2
+number_of status.Refused = 3
+number_of status.ReadFault = 4
+number_of status.WriteFault = 5
+number_of status.NoMemory = 6

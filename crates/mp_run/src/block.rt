@@ -1,0 +1,113 @@
+ghost use Rattle.std.specs.Prelude.{◌≡◌, [], Some, None, IfOk};
+ghost use Rattle.mp_thintext.specs.Values.{IsGoodEntry, EachInRange};
+ghost use Rattle.mp_run.specs.Goals.{IsBlock, events_of};
+ghost use Rattle.mp_run.specs.Goals.{is_closed as is_closed_of};
+
+use mp_drill::{Event, drill};
+use mp_eval::evaluate;
+use mp_logic::{List as Items, NoMemory, Sym, Text, leaf_count};
+use mp_names::Names;
+use mp_refiner::{Refiner, Theory};
+use mp_report::{result_text, trace_text};
+use mp_strategy::{Outcome, Problem, TacId, Work};
+use mp_term::Sequent;
+use mp_termtext::push_bytes;
+use mp_thintext::{Entry, Section};
+use std::alloc::Global;
+
+/// A goal's text, and whether its outcome is a tree without open leaves.
+#[derive(Drop)]
+pub struct Block {
+    pub text: Text,
+    pub closed: bool,
+}
+
+/// Whether the outcome is a tree without open leaves.
+fn is_closed(outcome: &Outcome<Sequent>) -> bool
+    ensures { result ≡ is_closed_of outcome.now }
+{
+    match outcome {
+        Outcome::Tree(tree) => leaf_count(tree) == 0,
+        Outcome::Failure(_) => false,
+    }
+}
+
+/// The block of a goal that is evaluated from left to right.
+pub fn seq_block(
+    alloc: Global,
+    names: &Names,
+    theory: &Theory,
+    entry: Entry,
+) -> Result<Block, NoMemory>
+    requires good { IsGoodEntry theory.now entry }
+    ensures { IfOk result (IsBlock names.now theory.now None entry) }
+{
+    let Entry {
+        name,
+        goal,
+        fuel,
+        justs,
+        tacs,
+    } = entry;
+    let refiner = Refiner::new(theory);
+    let problem = Problem::new(&refiner, justs, tacs);
+    let work = Work::of(&problem, TacId(0), fuel, goal);
+    let outcome = evaluate(alloc, &problem, &work)?;
+    let text = result_text(alloc, names, theory, name, &problem.justs, &outcome)?;
+    Ok(Block {
+        text,
+        closed: is_closed(&outcome),
+    })
+}
+
+/// The events of the goal's section, or these where it has none.
+fn events_in<'a>(
+    sections: &'a Items<Section>,
+    name: Sym,
+    none: &'a Items<Event>,
+) -> &'a Items<Event>
+    requires none { none.now ≡ [] }
+    ensures events { result.now ≡ events_of sections.now name }
+{
+    for section in sections.as_slice() {
+        if section.goal.0 == name.0 {
+            return &section.events;
+        }
+    }
+    none
+}
+
+/// The block of a goal whose schedule is drilled.
+pub fn drill_block(
+    alloc: Global,
+    names: &Names,
+    theory: &Theory,
+    sections: &Items<Section>,
+    entry: Entry,
+) -> Result<Block, NoMemory>
+    requires good { IsGoodEntry theory.now entry }
+    requires range { EachInRange sections.now }
+    ensures { IfOk result (IsBlock names.now theory.now (Some sections.now) entry) }
+{
+    let Entry {
+        name,
+        goal,
+        fuel,
+        justs,
+        tacs,
+    } = entry;
+    let refiner = Refiner::new(theory);
+    let problem = Problem::new(&refiner, justs, tacs);
+    let work = Work::of(&problem, TacId(0), fuel, goal);
+    let no_events = Items::new(alloc);
+    let events = events_in(sections, name, &no_events);
+    let (replies, outcome) = drill(alloc, &problem, work, events)?;
+    let trace = trace_text(alloc, names, name, events, &replies)?;
+    let result = result_text(alloc, names, theory, name, &problem.justs, &outcome)?;
+    let mut text = trace.into_vec();
+    push_bytes(&mut text, result.as_slice())?;
+    Ok(Block {
+        text: Items::from_vec(text),
+        closed: is_closed(&outcome),
+    })
+}

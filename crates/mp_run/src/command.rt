@@ -1,0 +1,62 @@
+ghost use Rattle.std.specs.Prelude.{◌≡◌};
+ghost use Rattle.std.specs.Option.{option_map};
+ghost use Rattle.std.specs.Str.{is_utf8 as is_utf8_of};
+ghost use Rattle.mp_run.specs.Commands.{command_of as command_of_words};
+ghost use Rattle.mp_run.specs.Stops.{command_seen};
+
+use mp_logic::Text;
+use std::str;
+
+/// A command, by the words that name its files: `seq` has no schedule, and `drill` has one.
+#[derive(Clone, Copy)]
+pub struct Command<'a> {
+    pub theory: &'a Text,
+    pub script: &'a Text,
+    pub schedule: Option<&'a Text>,
+}
+
+/// The command that the words give; None where they are none of the commands'.
+pub fn command_of(words: &[Text]) -> Option<Command<'_>>
+    ensures { option_map command_seen result ≡ command_of_words words.now }
+{
+    match words {
+        [word, theory, script] => {
+            if word.as_slice() == b"seq".as_slice() && is_utf8(theory) && is_utf8(script) {
+                Some(Command {
+                    theory,
+                    script,
+                    schedule: None,
+                })
+            } else {
+                None
+            }
+        }
+        [word, theory, script, schedule] => {
+            if word.as_slice() == b"drill".as_slice()
+                && is_utf8(theory)
+                && is_utf8(script)
+                && is_utf8(schedule)
+            {
+                Some(Command {
+                    theory,
+                    script,
+                    schedule: Some(schedule),
+                })
+            } else {
+                None
+            }
+        }
+        _ => None,
+    }
+}
+
+/// Whether the word is UTF-8.
+#[tactic(auto, using(crate::proofs::Words::passes, crate::proofs::Words::fails))]
+fn is_utf8(word: &Text) -> bool
+    ensures { result ≡ is_utf8_of word.now }
+{
+    match str::from_utf8(word.as_slice()) {
+        Ok(_) => true,
+        Err(_) => false,
+    }
+}

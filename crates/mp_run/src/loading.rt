@@ -1,0 +1,114 @@
+ghost use Rattle.std.specs.Prelude.{◌≡◌, ◌≤◌, length, map, IfOk};
+ghost use Rattle.mp_thintext.specs.Values.{EachGood};
+ghost use Rattle.mp_run.specs.Headline.{Answers, ScriptAnswers, ScheduleAnswers};
+ghost use Rattle.mp_run.specs.Loads.{LoadsSo};
+ghost use Rattle.mp_run.specs.Stops.{StopCause, command_seen, word_seen};
+
+use crate::command::Command;
+use crate::reading::{schedule_of, script_of, theory_of};
+use crate::stop::Stop;
+use mp_logic::{List, NoMemory, Sym, Text};
+use mp_names::Names;
+use mp_ports::Shelf;
+use mp_refiner::Theory;
+use mp_thintext::{Script, Section};
+use std::alloc::Global;
+
+/// What the files of a command say.
+#[derive(Drop)]
+pub struct Loaded {
+    pub names: Names,
+    pub theory: Theory,
+    pub script: Script,
+    /// The sections of the schedule, where one is drilled.
+    pub schedule: Option<List<Section>>,
+}
+
+/// The names of the goals, in order.
+fn goals_of(alloc: Global, script: &Script) -> Result<List<Sym>, NoMemory>
+    ensures { IfOk result (λ goals. goals ≡ map (λ e. e.name) script.now.entries) }
+{
+    let mut goals = List::with_capacity(alloc, script.entries.len())?;
+    for entry in script.entries.as_slice() {
+        if let Err((_, refused)) = goals.push(entry.name) {
+            return Err(refused);
+        }
+    }
+    Ok(goals)
+}
+
+/// Reads the schedule, if there is one, after the script.
+fn with_schedule<H: Shelf>(
+    alloc: Global,
+    shelf: &mut H,
+    names: Names,
+    theory: Theory,
+    script: Script,
+    schedule: Option<&Text>,
+) -> Result<Loaded, Stop>
+    requires room { length names ≤ 2097152 }
+    requires good { EachGood theory script.entries }
+    ensures answers { LoadsSo (ScheduleAnswers (H.bytes shelf.old) (word_seen schedule.entry) theory script names) result }
+    ensures cause { StopCause (H.faults shelf.old) (H.faults shelf.new) result }
+{
+    let Some(file) = schedule else {
+        return Ok(Loaded {
+            names,
+            theory,
+            script,
+            schedule: None,
+        });
+    };
+    let Ok(goals) = goals_of(alloc, &script) else {
+        return Err(Stop::NoMemory);
+    };
+    let mut names = names;
+    match schedule_of(alloc, shelf, &mut names, &goals, file) {
+        Ok(sections) => Ok(Loaded {
+            names,
+            theory,
+            script,
+            schedule: Some(sections),
+        }),
+        Err(stop) => Err(stop),
+    }
+}
+
+/// Reads the script after the theory, and then the schedule, if there is one.
+fn with_script<H: Shelf>(
+    alloc: Global,
+    shelf: &mut H,
+    names: Names,
+    theory: Theory,
+    script: &Text,
+    schedule: Option<&Text>,
+) -> Result<Loaded, Stop>
+    requires room { length names ≤ 1048576 }
+    ensures answers { LoadsSo (ScriptAnswers (H.bytes shelf.old) script.now (word_seen schedule.entry) theory names) result }
+    ensures cause { StopCause (H.faults shelf.old) (H.faults shelf.new) result }
+{
+    let mut names = names;
+    match script_of(alloc, shelf, &mut names, &theory, script) {
+        Ok(script) => with_schedule(alloc, shelf, names, theory, script, schedule),
+        Err(stop) => Err(stop),
+    }
+}
+
+/// Reads the files of the command, in the order of its words.
+pub fn load<H: Shelf>(alloc: Global, shelf: &mut H, command: Command<'_>) -> Result<Loaded, Stop>
+    ensures answers { LoadsSo (Answers (H.bytes shelf.old) (command_seen command.entry)) result }
+    ensures cause { StopCause (H.faults shelf.old) (H.faults shelf.new) result }
+{
+    let mut names = Names::new(alloc);
+    match theory_of(alloc, shelf, &mut names, command.theory) {
+        Ok(theory) => with_script(
+            alloc,
+            shelf,
+            names,
+            theory,
+            command.script,
+            command.schedule,
+        ),
+        Err(stop) => Err(stop),
+    }
+}

@@ -1,0 +1,109 @@
+ghost use Rattle.std.specs.Prelude.{◌≡◌, ◌≤◌, ◌+◌, ◌-◌, ◌<◌, ◌^◌, ℕ, List, length, IfOk};
+ghost use Rattle.mp_thintext.specs.Texts.{ReadsTheory, ReadsScript, ReadsSchedule};
+ghost use Rattle.mp_thintext.specs.Values.{EachGood, EachInRange};
+ghost use Rattle.mp_run.specs.Stops.{GivesBytes, GivesValue, StopCause, StopsRead};
+
+use crate::file::FileKind;
+use crate::lines::{refused, too_long};
+use crate::stop::Stop;
+use mp_logic::{List as Items, Sym, Text};
+use mp_names::Names;
+use mp_ports::{ReadErr, Shelf};
+use mp_refiner::Theory;
+use mp_thintext::{Script, Section, ThinErr, read_schedule, read_script, read_theory};
+use std::alloc::Global;
+
+/// The limit on the length of a file, in bytes.
+const LIMIT: u64 = 1048576;
+
+/// The bytes of a file that is within the limit.
+fn read_file<H: Shelf>(
+    alloc: Global,
+    shelf: &mut H,
+    name: &Text,
+    kind: FileKind,
+) -> Result<Text, Stop>
+    ensures kept { (other : List ℕ) → H.bytes shelf.new other ≡ H.bytes shelf.old other }
+    ensures gives { GivesBytes (H.bytes shelf.old name.now) kind result }
+    ensures cause { StopCause (H.faults shelf.old) (H.faults shelf.new) result }
+{
+    match shelf.read(alloc, name, LIMIT) {
+        Ok(text) => Ok(text),
+        Err(ReadErr::TooLong) => Err(too_long(alloc, kind)),
+        Err(ReadErr::Failed) => Err(Stop::Fault(kind)),
+        Err(ReadErr::NoMemory) => Err(Stop::NoMemory),
+    }
+}
+
+/// What ends a run whose file of this kind wasn't read.
+fn stop_of(alloc: Global, kind: FileKind, fail: ThinErr) -> Stop
+    ensures { StopsRead kind fail result }
+{
+    match fail {
+        ThinErr::Refused => refused(alloc, kind),
+        ThinErr::NoMemory => Stop::NoMemory,
+    }
+}
+
+/// The theory that a file says.
+pub fn theory_of<H: Shelf>(
+    alloc: Global,
+    shelf: &mut H,
+    names: &mut Names,
+    name: &Text,
+) -> Result<Theory, Stop>
+    requires room { length names.old + 1048576 < 2 ^ 32 - 1 }
+    ensures kept { (other : List ℕ) → H.bytes shelf.new other ≡ H.bytes shelf.old other }
+    ensures gives { GivesValue (H.bytes shelf.old name.now) FileKind.Theory (ReadsTheory names.old) names.new result }
+    ensures few { length names.new ≤ length names.old + 1048576 }
+    ensures cause { StopCause (H.faults shelf.old) (H.faults shelf.new) result }
+{
+    let source = read_file(alloc, shelf, name, FileKind::Theory)?;
+    match read_theory(alloc, names, source.as_slice()) {
+        Ok(theory) => Ok(theory),
+        Err(fail) => Err(stop_of(alloc, FileKind::Theory, fail)),
+    }
+}
+
+/// The script that a file says in a theory.
+pub fn script_of<H: Shelf>(
+    alloc: Global,
+    shelf: &mut H,
+    names: &mut Names,
+    theory: &Theory,
+    name: &Text,
+) -> Result<Script, Stop>
+    requires room { length names.old + 1048576 < 2 ^ 32 - 1 }
+    ensures kept { (other : List ℕ) → H.bytes shelf.new other ≡ H.bytes shelf.old other }
+    ensures gives { GivesValue (H.bytes shelf.old name.now) FileKind.Script (ReadsScript theory.now names.old) names.new result }
+    ensures good { IfOk result (λ script. EachGood theory.now script.entries) }
+    ensures few { length names.new ≤ length names.old + 1048576 }
+    ensures cause { StopCause (H.faults shelf.old) (H.faults shelf.new) result }
+{
+    let source = read_file(alloc, shelf, name, FileKind::Script)?;
+    match read_script(alloc, names, theory, source.as_slice()) {
+        Ok(script) => Ok(script),
+        Err(fail) => Err(stop_of(alloc, FileKind::Script, fail)),
+    }
+}
+
+/// The schedule of some goals that a file says.
+pub fn schedule_of<H: Shelf>(
+    alloc: Global,
+    shelf: &mut H,
+    names: &mut Names,
+    goals: &Items<Sym>,
+    name: &Text,
+) -> Result<Items<Section>, Stop>
+    requires room { length names.old + 1048576 < 2 ^ 32 - 1 }
+    ensures kept { (other : List ℕ) → H.bytes shelf.new other ≡ H.bytes shelf.old other }
+    ensures gives { GivesValue (H.bytes shelf.old name.now) FileKind.Schedule (ReadsSchedule goals.now names.old) names.new result }
+    ensures range { IfOk result EachInRange }
+    ensures cause { StopCause (H.faults shelf.old) (H.faults shelf.new) result }
+{
+    let source = read_file(alloc, shelf, name, FileKind::Schedule)?;
+    match read_schedule(alloc, names, goals, source.as_slice()) {
+        Ok(sections) => Ok(sections),
+        Err(fail) => Err(stop_of(alloc, FileKind::Schedule, fail)),
+    }
+}

@@ -1,0 +1,12 @@
+use crate::file::FileKind;
+use mp_logic::Text;
+
+/// What ends a run before its goals.
+#[derive(Drop)]
+pub enum Stop {
+    /// A file was refused, and this is the line that tells it.
+    Refused(Text),
+    /// This file couldn't be read.
+    Fault(FileKind),
+    NoMemory,
+}
