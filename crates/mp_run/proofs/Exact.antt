@@ -6,7 +6,8 @@ use Rattle.mp_run.specs.declared.file.Status.{Status}
 use Rattle.mp_run.specs.declared.file.Status.TheVariants as status
 use Rattle.mp_run.specs.Commands.{Command}
 use Rattle.mp_run.specs.Answers.{Answer}
-use Rattle.mp_run.specs.Runs.{EndsSo, CommandWrites, UsageWrites, RunWrites, RunCause, Completes}
+use Rattle.mp_run.specs.declared.file.FileKind.{FileKind}
+use Rattle.mp_run.specs.Runs.{ReadsFile, EndsSo, CommandWrites, UsageWrites, RunWrites, RunCause, Completes}
 
 not_both : (before now : ℕ) → Rose before now → Quiet before now → ⊥
 not_both before now rose quiet = omega (arith, rose, quiet)
@@ -25,15 +26,15 @@ pub usage_exact : (answers : Command → Answer → Type 0) (words : Option Comm
 usage_exact answers None s text r r' w w' h k e q = usage_at s text r r' w w' h k q
 usage_exact answers (Some c) s text r r' w w' h k e q = absurd cc
 
-answer_at : (IsAnswer : Answer → Type 0) (s : Status) (text : List ℕ) (r r' w w' : ℕ) → CommandWrites IsAnswer s text → RunCause s r r' w w' → Quiet r r' → Quiet w w'
+answer_at : (IsRead : FileKind → Type 0) (IsAnswer : Answer → Type 0) (s : Status) (text : List ℕ) (r r' w w' : ℕ) → CommandWrites IsRead IsAnswer s text → RunCause s r r' w w' → Quiet r r' → Quiet w w'
     → (s ≡ status.NoMemory) ⊎ EndsSo IsAnswer s text
-answer_at IsAnswer status.AllClosed text r r' w w' h k p q = inr h
-answer_at IsAnswer status.NotAll text r r' w w' h k p q = inr h
-answer_at IsAnswer status.Refused text r r' w w' h k p q = inr h
-answer_at IsAnswer status.Usage text r r' w w' h k p q = absurd h
-answer_at IsAnswer status.ReadFault text r r' w w' h k p q = absurd (not_both r r' k.0 p)
-answer_at IsAnswer status.WriteFault text r r' w w' h k p q = absurd (not_both w w' k q)
-answer_at IsAnswer status.NoMemory text r r' w w' h k p q = inl refl
+answer_at IsRead IsAnswer status.AllClosed text r r' w w' h k p q = inr h
+answer_at IsRead IsAnswer status.NotAll text r r' w w' h k p q = inr h
+answer_at IsRead IsAnswer status.Refused text r r' w w' h k p q = inr h
+answer_at IsRead IsAnswer status.Usage text r r' w w' h k p q = absurd h
+answer_at IsRead IsAnswer status.ReadFault text r r' w w' h k p q = absurd (not_both r r' k.0 p)
+answer_at IsRead IsAnswer status.WriteFault text r r' w w' h k p q = absurd (not_both w w' k q)
+answer_at IsRead IsAnswer status.NoMemory text r r' w w' h k p q = inl refl
 
 with_text : (IsAnswer : Answer → Type 0) (old new : Option (List ℕ)) (s : Status) (text : List ℕ) → Appends old new text
     → (s ≡ status.NoMemory) ⊎ EndsSo IsAnswer s text → Completes IsAnswer old new s
@@ -45,5 +46,5 @@ pub answer_exact : (answers : Command → Answer → Type 0) (words : Option Com
 answer_exact answers None command old new s text r r' w w' a h k e p q = absurd cc
 answer_exact answers (Some c) command old new s text r r' w w' a h k e p q =
     let same : c ≡ command = cc in
-    let P : Command → Type 0 = λ x. CommandWrites (answers x) s text in
-    with_text (answers command) old new s text a (answer_at (answers command) s text r r' w w' (subst P same h) k p q)
+    let P : Command → Type 0 = λ x. CommandWrites (ReadsFile x.schedule) (answers x) s text in
+    with_text (answers command) old new s text a (answer_at (ReadsFile command.schedule) (answers command) s text r r' w w' (subst P same h) k p q)

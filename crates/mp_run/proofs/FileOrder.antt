@@ -15,6 +15,7 @@ use Rattle.mp_run.specs.Goals.{GoalsAnswer}
 use Rattle.mp_run.specs.Headline.{Answers, ScriptAnswers, ScheduleAnswers}
 use Rattle.mp_run.specs.Commands.{Command}
 use Rattle.mp_run.specs.Loads.{IsLoad, LoadsSo}
+use Rattle.mp_run.specs.Runs.{ReadsFile}
 use Rattle.mp_run.specs.Stops.{GivesValue, StopsWith}
 use Rattle.mp_run.proofs.Files.{goes_on, stops_here, loads_on}
 
@@ -44,33 +45,38 @@ schedule_loaded files schedule file rules goals names after asked sections e f g
 pub schedule_stops : (files : Files) (schedule : Option (List ℕ)) (file : List ℕ) (rules : List Rule) (goals : Goals) (names after : Names) (asked : List Sym) (st : Stop)
     → schedule ≡ Some file → asked ≡ named goals
     → (let said : Result (List Section) Stop = Err st in GivesValue (files file) Schedule (ReadsSchedule asked names) after said)
-    → StopsWith (ScheduleAnswers files schedule rules goals names) st
+    → StopsWith (ReadsFile schedule) (ScheduleAnswers files schedule rules goals names) st
 schedule_stops files schedule file rules goals names after asked st e f gives =
-    let P : Option (List ℕ) → Type 0 = λ s. StopsWith (ScheduleAnswers files s rules goals names) st in
+    let P : Option (List ℕ) → Type 0 = λ s. StopsWith (ReadsFile schedule) (ScheduleAnswers files s rules goals names) st in
     let Q : List Sym → Type 0 = λ g. (let said : Result (List Section) Stop = Err st in GivesValue (files file) Schedule (ReadsSchedule g names) after said) in
-    subst P (sym e) (stops_here Schedule (ReadsSchedule (named goals) names) (λ secs last. GoalsAnswer last rules (Some secs) goals.entries) (files file) after st (subst Q f gives))
+    subst P (sym e) (stops_here Schedule (ReadsSchedule (named goals) names) (λ secs last. GoalsAnswer last rules (Some secs) goals.entries) (ReadsFile schedule) (file, e) (files file) after st (subst Q f gives))
 
 pub script_loaded : (files later : Files) (script : List ℕ) (schedule : Option (List ℕ)) (rules : List Rule) (goals : Goals) (names after : Names) (result : Result Loaded Stop)
     → ((name : List ℕ) → later name ≡ files name)
     → (let said : Result Goals Stop = Ok goals in GivesValue (files script) Script (ReadsScript rules names) after said)
-    → LoadsSo (ScheduleAnswers later schedule rules goals after) result → LoadsSo (ScriptAnswers files script schedule rules names) result
+    → LoadsSo (ReadsFile schedule) (ScheduleAnswers later schedule rules goals after) result → LoadsSo (ReadsFile schedule) (ScriptAnswers files script schedule rules names) result
 script_loaded files later script schedule rules goals names after result kept gives h =
-    let P : Files → Type 0 = λ f. LoadsSo (ScheduleAnswers f schedule rules goals after) result in
+    let P : Files → Type 0 = λ f. LoadsSo (ReadsFile schedule) (ScheduleAnswers f schedule rules goals after) result in
     let same : later ≡ files = λ i name. kept name i in
-    loads_on Script (ReadsScript rules names) (λ g known. ScheduleAnswers files schedule rules g known) (files script) after goals result gives (subst P same h)
+    loads_on (ReadsFile schedule) Script (ReadsScript rules names) (λ g known. ScheduleAnswers files schedule rules g known) (files script) after goals result gives (subst P same h)
 
 pub theory_loaded : (files later : Files) (command : Command) (rules : List Rule) (first after : Names) (result : Result Loaded Stop)
     → ((name : List ℕ) → later name ≡ files name) → first ≡ []
     → (let said : Result (List Rule) Stop = Ok rules in GivesValue (files command.theory) Theory (ReadsTheory first) after said)
-    → LoadsSo (ScriptAnswers later command.script command.schedule rules after) result → LoadsSo (Answers files command) result
+    → LoadsSo (ReadsFile command.schedule) (ScriptAnswers later command.script command.schedule rules after) result → LoadsSo (ReadsFile command.schedule) (Answers files command) result
 theory_loaded files later command rules first after result kept e gives h =
-    let P : Files → Type 0 = λ f. LoadsSo (ScriptAnswers f command.script command.schedule rules after) result in
+    let P : Files → Type 0 = λ f. LoadsSo (ReadsFile command.schedule) (ScriptAnswers f command.script command.schedule rules after) result in
     let Q : Names → Type 0 = λ n. (let said : Result (List Rule) Stop = Ok rules in GivesValue (files command.theory) Theory (ReadsTheory n) after said) in
     let same : later ≡ files = λ i name. kept name i in
-    loads_on Theory (ReadsTheory []) (λ r known. ScriptAnswers files command.script command.schedule r known) (files command.theory) after rules result (subst Q e gives) (subst P same h)
+    loads_on (ReadsFile command.schedule) Theory (ReadsTheory []) (λ r known. ScriptAnswers files command.script command.schedule r known) (files command.theory) after rules result (subst Q e gives) (subst P same h)
 
 pub theory_stops : (files : Files) (command : Command) (first after : Names) (st : Stop) → first ≡ []
-    → (let said : Result (List Rule) Stop = Err st in GivesValue (files command.theory) Theory (ReadsTheory first) after said) → StopsWith (Answers files command) st
+    → (let said : Result (List Rule) Stop = Err st in GivesValue (files command.theory) Theory (ReadsTheory first) after said) → StopsWith (ReadsFile command.schedule) (Answers files command) st
 theory_stops files command first after st e gives =
     let Q : Names → Type 0 = λ n. (let said : Result (List Rule) Stop = Err st in GivesValue (files command.theory) Theory (ReadsTheory n) after said) in
-    stops_here Theory (ReadsTheory []) (λ r known. ScriptAnswers files command.script command.schedule r known) (files command.theory) after st (subst Q e gives)
+    stops_here Theory (ReadsTheory []) (λ r known. ScriptAnswers files command.script command.schedule r known) (ReadsFile command.schedule) tt (files command.theory) after st (subst Q e gives)
+
+pub script_stops : (files : Files) (script : List ℕ) (schedule : Option (List ℕ)) (rules : List Rule) (names after : Names) (st : Stop)
+    → (let said : Result Goals Stop = Err st in GivesValue (files script) Script (ReadsScript rules names) after said) → StopsWith (ReadsFile schedule) (ScriptAnswers files script schedule rules names) st
+script_stops files script schedule rules names after st gives =
+    stops_here Script (ReadsScript rules names) (λ g known. ScheduleAnswers files schedule rules g known) (ReadsFile schedule) tt (files script) after st gives

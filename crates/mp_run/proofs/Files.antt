@@ -1,5 +1,5 @@
 -- How the readings of the files, one after the other, make the answer.
-use Rattle.std.proofs.Common.{◌≡◌, ℕ, ◌≤◌, ◌<◌, length, ◌⊎◌, inl, inr, List, Option, Some, None, Result, Ok, Err, refl, subst}
+use Rattle.std.proofs.Common.{◌≡◌, ℕ, ◌≤◌, ◌<◌, length, ◌⊎◌, inl, inr, List, Option, Some, None, Result, Ok, Err, refl, sym, subst}
 use Rattle.mp_thintext.specs.declared.fail.ThinErr.{ThinErr}
 use Rattle.mp_run.specs.declared.file.FileKind.{FileKind}
 use Rattle.mp_run.specs.declared.stop.Stop.{Stop}
@@ -13,11 +13,12 @@ use Rattle.mp_run.specs.Stops.{GivesBytes, GivesValue, StopsRead, StopsWith}
 
 module _ {V : Type 0} (kind : FileKind) (reads : Reading V) (next : V → Names → Answer → Type 0) where
   -- the file ends the run
-  pub stops_here : (told : Option (List ℕ)) (names : Names) (st : Stop) → (let answer : Result V Stop = Err st in GivesValue told kind reads names answer) → StopsWith (FileThen kind told reads next) st
-  stops_here None names (stop.Refused line) h = tt
-  stops_here (Some bytes) names (stop.Refused line) h = inl (line, h, refl)
-  stops_here told names (stop.Fault file) h = tt
-  stops_here told names stop.NoMemory h = tt
+  pub stops_here : (IsRead : FileKind → Type 0) → IsRead kind → (told : Option (List ℕ)) (names : Names) (st : Stop) → (let answer : Result V Stop = Err st in GivesValue told kind reads names answer)
+      → StopsWith IsRead (FileThen kind told reads next) st
+  stops_here IsRead r None names (stop.Refused line) h = tt
+  stops_here IsRead r (Some bytes) names (stop.Refused line) h = inl (line, h, refl)
+  stops_here IsRead r told names (stop.Fault file) h = subst IsRead (sym h) r
+  stops_here IsRead r told names stop.NoMemory h = tt
 
   -- the file says a value, and the rest answers
   pub goes_on : (told : Option (List ℕ)) (names : Names) (value : V) (answer : Answer) → (let said : Result V Stop = Ok value in GivesValue told kind reads names said)
@@ -26,11 +27,11 @@ module _ {V : Type 0} (kind : FileKind) (reads : Reading V) (next : V → Names 
   goes_on (Some bytes) names value answer h k = inr (value, names, h, k)
 
   -- the file says a value, and a later file ends the run
-  pub stops_later : (told : Option (List ℕ)) (names : Names) (value : V) (st : Stop) → (let said : Result V Stop = Ok value in GivesValue told kind reads names said)
-      → StopsWith (next value names) st → StopsWith (FileThen kind told reads next) st
-  stops_later told names value (stop.Refused line) h k = goes_on told names value (Refusal line) h k
-  stops_later told names value (stop.Fault file) h k = tt
-  stops_later told names value stop.NoMemory h k = tt
+  pub stops_later : (IsRead : FileKind → Type 0) (told : Option (List ℕ)) (names : Names) (value : V) (st : Stop) → (let said : Result V Stop = Ok value in GivesValue told kind reads names said)
+      → StopsWith IsRead (next value names) st → StopsWith IsRead (FileThen kind told reads next) st
+  stops_later IsRead told names value (stop.Refused line) h k = goes_on told names value (Refusal line) h k
+  stops_later IsRead told names value (stop.Fault file) h k = k
+  stops_later IsRead told names value stop.NoMemory h k = tt
 
 says_of : {V : Type 0} (kind : FileKind) (reads : Reading V) (told : Option (List ℕ)) (text : List ℕ) (value : V) (names : Names)
     → (let read : Result (List ℕ) Stop = Ok text in GivesBytes told kind read) → reads text (Ok value) names → (let said : Result V Stop = Ok value in GivesValue told kind reads names said)
@@ -69,8 +70,8 @@ says_nothing {V} kind reads told text slice fail st names h e k s =
     refused_by kind reads told text fail st names h (subst P e k) s
 
 -- the files are loaded, or one of them ends the run
-pub loads_on : {V : Type 0} (kind : FileKind) (reads : Reading V) (next : V → Names → Answer → Type 0) (told : Option (List ℕ)) (names : Names) (value : V) (result : Result Loaded Stop)
-    → (let said : Result V Stop = Ok value in GivesValue told kind reads names said) → LoadsSo (next value names) result → LoadsSo (FileThen kind told reads next) result
-loads_on kind reads next told names value (Ok loaded) h k =
+pub loads_on : {V : Type 0} (IsRead : FileKind → Type 0) (kind : FileKind) (reads : Reading V) (next : V → Names → Answer → Type 0) (told : Option (List ℕ)) (names : Names) (value : V) (result : Result Loaded Stop)
+    → (let said : Result V Stop = Ok value in GivesValue told kind reads names said) → LoadsSo IsRead (next value names) result → LoadsSo IsRead (FileThen kind told reads next) result
+loads_on IsRead kind reads next told names value (Ok loaded) h k =
     record { goals = k.goals; range = k.range; answers = λ answer a. goes_on kind reads next told names value answer h (k.answers answer a) }
-loads_on kind reads next told names value (Err st) h k = stops_later kind reads next told names value st h k
+loads_on IsRead kind reads next told names value (Err st) h k = stops_later kind reads next IsRead told names value st h k

@@ -29,22 +29,22 @@ ends_somehow : (texts : List (List ℕ)) (b : Bool) (text : List ℕ) → text �
 ends_somehow texts true text h = (status.AllClosed, (refl, h))
 ends_somehow texts false text h = (status.NotAll, (refl, h))
 
-module _ (IsAnswer : Answer → Type 0) where
+module _ (IsRead : FileKind → Type 0) (IsAnswer : Answer → Type 0) (theory : IsRead Theory) where
   -- nothing was written
-  nothing : (s : Status) (text : List ℕ) → s ≡ status.NoMemory → text ≡ [] → CommandWrites IsAnswer s text
+  nothing : (s : Status) (text : List ℕ) → s ≡ status.NoMemory → text ≡ [] → CommandWrites IsRead IsAnswer s text
   nothing s text e f =
-      let P : Status → Type 0 = λ x. CommandWrites IsAnswer x text in
-      let Q : List ℕ → Type 0 = λ x. MayBegin IsAnswer x in
-      subst P (sym e) (subst Q (sym f) (fault_line Theory, inr (Theory, refl)))
+      let P : Status → Type 0 = λ x. CommandWrites IsRead IsAnswer x text in
+      let Q : List ℕ → Type 0 = λ x. MayBegin IsRead IsAnswer x in
+      subst P (sym e) (subst Q (sym f) (fault_line Theory, inr (Theory, theory, refl)))
 
-  begins : (bs : List Block) (text rest : List ℕ) → IsAnswer (answer_of bs) → text ++ rest ≡ joined (map (λ b. b.text) bs) → MayBegin IsAnswer text
+  begins : (bs : List Block) (text rest : List ℕ) → IsAnswer (answer_of bs) → text ++ rest ≡ joined (map (λ b. b.text) bs) → MayBegin IsRead IsAnswer text
   begins bs text rest is e =
       let done = ends_somehow (map (λ b. b.text) bs) (list_all (λ b. b.closed) bs) (text ++ rest) e in
       (rest, inl (done.0, (answer_of bs, is, done.1)))
 
   pub goals_written : (Is : Entry → Block → Type 0) (entries : List Entry) (s : Status) (text : List ℕ)
       → ((answer : Answer) → ((bs : List Block) × AreBlocks Is entries bs × (answer ≡ answer_of bs)) → IsAnswer answer)
-      → GoalsWrite Is entries s text → CommandWrites IsAnswer s text
+      → GoalsWrite Is entries s text → CommandWrites IsRead IsAnswer s text
   goals_written Is entries status.AllClosed text is h =
       (answer_of h.0, is (answer_of h.0) (h.0, h.1, refl), ends_closed (map (λ b. b.text) h.0) (list_all (λ b. b.closed) h.0) text h.2 h.3)
   goals_written Is entries status.NotAll text is h =
@@ -55,14 +55,14 @@ module _ (IsAnswer : Answer → Type 0) where
   goals_written Is entries status.Refused text is h = absurd h
   goals_written Is entries status.ReadFault text is h = absurd h
 
-  moved : (s s' : Status) (text : List ℕ) → s ≡ s' → CommandWrites IsAnswer s' text → CommandWrites IsAnswer s text
-  moved s s' text e h = let P : Status → Type 0 = λ x. CommandWrites IsAnswer x text in subst P (sym e) h
+  moved : (s s' : Status) (text : List ℕ) → s ≡ s' → CommandWrites IsRead IsAnswer s' text → CommandWrites IsRead IsAnswer s text
+  moved s s' text e h = let P : Status → Type 0 = λ x. CommandWrites IsRead IsAnswer x text in subst P (sym e) h
 
-  pub stop_written : (st : Stop) (s : Status) (text : List ℕ) → StopsWith IsAnswer st → StopWrites st s text → CommandWrites IsAnswer s text
+  pub stop_written : (st : Stop) (s : Status) (text : List ℕ) → StopsWith IsRead IsAnswer st → StopWrites st s text → CommandWrites IsRead IsAnswer s text
   stop_written (stop.Refused line) s text is (inl h) = moved s status.Refused text h.0 (Refusal line, is, (refl, h.1))
   stop_written (stop.Refused line) s text is (inr h) = moved s status.WriteFault text h.0 (h.1, inl (status.Refused, (Refusal line, is, (refl, h.2))))
-  stop_written (stop.Fault file) s text is (inl (inl h)) = moved s status.ReadFault text h.0 (file, h.1)
-  stop_written (stop.Fault file) s text is (inl (inr h)) = moved s status.WriteFault text h.0 (h.1, inr (file, h.2))
+  stop_written (stop.Fault file) s text is (inl (inl h)) = moved s status.ReadFault text h.0 (file, is, h.1)
+  stop_written (stop.Fault file) s text is (inl (inr h)) = moved s status.WriteFault text h.0 (h.1, inr (file, is, h.2))
   stop_written (stop.Fault file) s text is (inr h) = nothing s text h.0 h.1
   stop_written stop.NoMemory s text is h = nothing s text h.0 h.1
 

@@ -7,6 +7,7 @@ use Rattle.mp_run.specs.declared.loading.Loaded.{Loaded}
 use Rattle.mp_run.specs.declared.stop.Stop.{Stop}
 use Rattle.mp_run.specs.Answers.{Answer}
 use Rattle.mp_run.specs.declared.block.Block.{Block}
+use Rattle.mp_run.specs.declared.file.FileKind.{FileKind}
 use Rattle.mp_run.specs.declared.file.Status.{Status}
 use Rattle.mp_run.specs.declared.file.Status.TheVariants as status
 use Rattle.mp_thintext.specs.declared.script.Entry.{Entry}
@@ -26,9 +27,9 @@ pub record IsLoad (IsAnswer : Answer → Type 0) (loaded : Loaded) : Type 0 wher
   pub answers : (answer : Answer) → GoalsAnswer loaded.names loaded.theory loaded.schedule loaded.script.entries answer → IsAnswer answer
 
 -- the files are loaded, or what ends the run agrees with the answer
-abbrev pub LoadsSo : (Answer → Type 0) → Result Loaded Stop → Type 0
-LoadsSo IsAnswer (Ok loaded) = IsLoad IsAnswer loaded
-LoadsSo IsAnswer (Err stop) = StopsWith IsAnswer stop
+abbrev pub LoadsSo : (FileKind → Type 0) → (Answer → Type 0) → Result Loaded Stop → Type 0
+LoadsSo IsRead IsAnswer (Ok loaded) = IsLoad IsAnswer loaded
+LoadsSo IsRead IsAnswer (Err stop) = StopsWith IsRead IsAnswer stop
 
 -- what putting the goals' blocks one by one writes
 abbrev pub GoalsWrite : (Entry → Block → Type 0) → List Entry → Status → List ℕ → Type 0

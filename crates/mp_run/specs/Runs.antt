@@ -4,6 +4,7 @@ use Rattle.std.specs.List.{flat_map}
 use Rattle.std.specs.Io.KnownBytes.{Appends}
 use Rattle.mp_ports.specs.Causes.{Rose}
 use Rattle.mp_run.specs.declared.file.FileKind.{FileKind}
+use Rattle.mp_run.specs.declared.file.FileKind.TheVariants.{Theory, Script, Schedule}
 use Rattle.mp_run.specs.declared.file.Status.{Status}
 use Rattle.mp_run.specs.declared.file.Status.TheVariants as status
 use Rattle.mp_run.specs.Commands.{Command, usage_line}
@@ -20,14 +21,25 @@ Ends (Blocks blocks true) s text = (s ≡ status.AllClosed) × (text ≡ joined 
 Ends (Blocks blocks false) s text = (s ≡ status.NotAll) × (text ≡ joined blocks)
 Ends (Refusal line) s text = (s ≡ status.Refused) × (text ≡ line)
 
+-- the files that a command reads: the theory and the script, and the schedule where it has one
+abbrev pub ReadsFile : Option (List ℕ) → FileKind → Type 0
+ReadsFile schedule Theory = ⊤
+ReadsFile schedule Script = ⊤
+ReadsFile schedule Schedule = (file : List ℕ) × (schedule ≡ Some file)
+
 module _ (IsAnswer : Answer → Type 0) where
   -- an answer was written whole, under its status
   abbrev pub EndsSo : Status → List ℕ → Type 0
   EndsSo s text = (answer : Answer) × IsAnswer answer × Ends answer s text
 
-  -- what may be written in full: an answer, or the line that a file couldn't be read
+  -- the whole answer was taken under its status, or memory ran out
+  abbrev pub Completes : Option (List ℕ) → Option (List ℕ) → Status → Type 0
+  Completes old new s = (s ≡ status.NoMemory) ⊎ ((text : List ℕ) × Appends old new text × EndsSo s text)
+
+module _ (IsRead : FileKind → Type 0) (IsAnswer : Answer → Type 0) where
+  -- what may be written in full: an answer, or the line that a file which is read couldn't be
   abbrev pub MayWrite : List ℕ → Type 0
-  MayWrite text = ((s : Status) × EndsSo s text) ⊎ ((file : FileKind) × (text ≡ fault_line file))
+  MayWrite text = ((s : Status) × EndsSo IsAnswer s text) ⊎ ((file : FileKind) × IsRead file × (text ≡ fault_line file))
 
   -- the first bytes of that, maybe none
   abbrev pub MayBegin : List ℕ → Type 0
@@ -35,17 +47,13 @@ module _ (IsAnswer : Answer → Type 0) where
 
   -- each status with its text, where the words are a command's
   abbrev pub CommandWrites : Status → List ℕ → Type 0
-  CommandWrites status.AllClosed text = EndsSo status.AllClosed text
-  CommandWrites status.NotAll text = EndsSo status.NotAll text
-  CommandWrites status.Refused text = EndsSo status.Refused text
-  CommandWrites status.ReadFault text = (file : FileKind) × (text ≡ fault_line file)
+  CommandWrites status.AllClosed text = EndsSo IsAnswer status.AllClosed text
+  CommandWrites status.NotAll text = EndsSo IsAnswer status.NotAll text
+  CommandWrites status.Refused text = EndsSo IsAnswer status.Refused text
+  CommandWrites status.ReadFault text = (file : FileKind) × IsRead file × (text ≡ fault_line file)
   CommandWrites status.WriteFault text = MayBegin text
   CommandWrites status.NoMemory text = MayBegin text
   CommandWrites status.Usage text = ⊥
-
-  -- the whole answer was taken under its status, or memory ran out
-  abbrev pub Completes : Option (List ℕ) → Option (List ℕ) → Status → Type 0
-  Completes old new s = (s ≡ status.NoMemory) ⊎ ((text : List ℕ) × Appends old new text × EndsSo s text)
 
 -- and where they are not: the usage line, or the first bytes of it
 abbrev pub UsageWrites : Status → List ℕ → Type 0
@@ -55,7 +63,7 @@ UsageWrites other text = ⊥
 
 abbrev pub RunWrites : (Command → Answer → Type 0) → Option Command → Status → List ℕ → Type 0
 RunWrites answers None s text = UsageWrites s text
-RunWrites answers (Some command) s text = CommandWrites (answers command) s text
+RunWrites answers (Some command) s text = CommandWrites (ReadsFile command.schedule) (answers command) s text
 
 -- a fault comes only where its count rose, and another status, memory aside, only where no count rose
 abbrev pub RunCause : Status → (reads_before reads_now writes_before writes_now : ℕ) → Type 0

@@ -48,11 +48,11 @@ abbrev pub StopCause : {V : Type 0} → (faults_before faults_now : ℕ) → Res
 StopCause before now (Err (stop.Fault file)) = Rose before now
 StopCause before now answer = now ≡ before
 
--- what ends the run agrees with the answer to the files
-abbrev pub StopsWith : (Answer → Type 0) → Stop → Type 0
-StopsWith IsAnswer (stop.Refused line) = IsAnswer (Refusal line)
-StopsWith IsAnswer (stop.Fault file) = ⊤
-StopsWith IsAnswer stop.NoMemory = ⊤
+-- what ends the run agrees with the answer to the files, and with the files that are read
+abbrev pub StopsWith : (FileKind → Type 0) → (Answer → Type 0) → Stop → Type 0
+StopsWith IsRead IsAnswer (stop.Refused line) = IsAnswer (Refusal line)
+StopsWith IsRead IsAnswer (stop.Fault file) = IsRead file
+StopsWith IsRead IsAnswer stop.NoMemory = ⊤
 
 -- a line was taken whole under its status, or its first bytes were
 abbrev pub TellWrites : List ℕ → Status → Status → List ℕ → Type 0

@@ -2,6 +2,7 @@ ghost use Rattle.std.specs.Prelude.{◌≡◌, ◌≤◌, length, map, IfOk};
 ghost use Rattle.mp_thintext.specs.Values.{EachGood};
 ghost use Rattle.mp_run.specs.Headline.{Answers, ScriptAnswers, ScheduleAnswers};
 ghost use Rattle.mp_run.specs.Loads.{LoadsSo};
+ghost use Rattle.mp_run.specs.Runs.{ReadsFile};
 ghost use Rattle.mp_run.specs.Stops.{StopCause, command_seen, word_seen};
 
 use crate::command::Command;
@@ -48,7 +49,7 @@ fn with_schedule<H: Shelf>(
 ) -> Result<Loaded, Stop>
     requires room { length names ≤ 2097152 }
     requires good { EachGood theory script.entries }
-    ensures answers { LoadsSo (ScheduleAnswers (H.bytes shelf.old) (word_seen schedule.entry) theory script names) result }
+    ensures answers { LoadsSo (ReadsFile (word_seen schedule.entry)) (ScheduleAnswers (H.bytes shelf.old) (word_seen schedule.entry) theory script names) result }
     ensures cause { StopCause (H.faults shelf.old) (H.faults shelf.new) result }
 {
     let Some(file) = schedule else {
@@ -84,7 +85,7 @@ fn with_script<H: Shelf>(
     schedule: Option<&Text>,
 ) -> Result<Loaded, Stop>
     requires room { length names ≤ 1048576 }
-    ensures answers { LoadsSo (ScriptAnswers (H.bytes shelf.old) script.now (word_seen schedule.entry) theory names) result }
+    ensures answers { LoadsSo (ReadsFile (word_seen schedule.entry)) (ScriptAnswers (H.bytes shelf.old) script.now (word_seen schedule.entry) theory names) result }
     ensures cause { StopCause (H.faults shelf.old) (H.faults shelf.new) result }
 {
     let mut names = names;
@@ -96,7 +97,7 @@ fn with_script<H: Shelf>(
 
 /// Reads the files of the command, in the order of its words.
 pub fn load<H: Shelf>(alloc: Global, shelf: &mut H, command: Command<'_>) -> Result<Loaded, Stop>
-    ensures answers { LoadsSo (Answers (H.bytes shelf.old) (command_seen command.entry)) result }
+    ensures answers { LoadsSo (ReadsFile (word_seen command.entry.schedule)) (Answers (H.bytes shelf.old) (command_seen command.entry)) result }
     ensures cause { StopCause (H.faults shelf.old) (H.faults shelf.new) result }
 {
     let mut names = Names::new(alloc);

@@ -4,8 +4,8 @@ ghost use Rattle.mp_ports.specs.Causes.{Quiet};
 ghost use Rattle.mp_run.specs.Commands.{Command as CommandWords};
 ghost use Rattle.mp_run.specs.Commands.{command_of as command_of_words};
 ghost use Rattle.mp_run.specs.Headline.{Answers};
-ghost use Rattle.mp_run.specs.Runs.{CommandWrites, RunWrites, RunCause, Completes};
-ghost use Rattle.mp_run.specs.Stops.{command_seen};
+ghost use Rattle.mp_run.specs.Runs.{CommandWrites, RunWrites, RunCause, Completes, ReadsFile};
+ghost use Rattle.mp_run.specs.Stops.{command_seen, word_seen};
 
 use crate::command::{Command, command_of};
 use crate::file::Status;
@@ -27,7 +27,7 @@ fn run_command<H: Shelf, K: Sink>(
     shelf: &mut H,
     out: &mut K,
 ) -> Status
-    ensures writes { (text : List ℕ) × Appends (K.taken out.old) (K.taken out.new) text × CommandWrites (Answers (H.bytes shelf.old) (command_seen command.entry)) result text }
+    ensures writes { (text : List ℕ) × Appends (K.taken out.old) (K.taken out.new) text × CommandWrites (ReadsFile (word_seen command.entry.schedule)) (Answers (H.bytes shelf.old) (command_seen command.entry)) result text }
     ensures cause { RunCause result (H.faults shelf.old) (H.faults shelf.new) (K.faults out.old) (K.faults out.new) }
 {
     match load(alloc, shelf, command) {
