@@ -1,5 +1,6 @@
 -- Each call of the machine keeps that a state is sound.
-use Rattle.std.proofs.Common.{◌≡◌, ℕ, ◌+◌, ◌<◌, ◌==◌, Bool, true, false, List, [], ◌∷◌, Some, refl, sym, subst, ap, ◌∙◌, if◌then◌else◌, arith}
+use Rattle.std.proofs.Common.{inl, inr, ◌≡◌, ◌≢◌, ℕ, ◌+◌, ◌<◌, ◌==◌, AllPairs, Bool, true, false, List, [], ◌∷◌, Some, refl, sym, subst, ap, ◌∙◌, if◌then◌else◌, arith}
+use Rattle.std.proofs.lemmas.List.Elements.{All-nil, All-cons}
 use Rattle.mp_strategy.specs.declared.work.Work.{Work}
 use Rattle.mp_strategy.specs.declared.outcome.Outcome.{Outcome}
 use Rattle.mp_core.specs.declared.node.Node.{Node}
@@ -10,101 +11,181 @@ use Rattle.mp_core.specs.declared.core_calls.Claimed.{Claimed}
 use Rattle.mp_core.specs.declared.core_calls.Claimed.TheVariants as claimed
 use Rattle.mp_core.specs.declared.core_calls.Reported.{Reported}
 use Rattle.mp_core.specs.declared.core_calls.Reported.TheVariants as reported
-use Rattle.mp_core.specs.Nodes.{HasClaim, claim_by, done_of, reclaim, place, give_back}
-use Rattle.mp_core.specs.Machine.{last_epoch, opening, issue_reply, issue_state, claimed_by, reissued, next_for, or_reissued, placed, IsDue, Reports, lost_by, answer_of}
+use Rattle.mp_core.specs.Nodes.{HasClaim, claim_by, done_of, place, give_back}
+use Rattle.mp_core.specs.Machine.{last_epoch, opening, issue_reply, issue_state, claimed_by, reissued, next_for, or_reissued, settle, placed, IsStale, Reports, lost_by, answer_of}
 use Rattle.mp_core.specs.Events.{Event, Claim, Report, Lose, Reissue, NextForCaller, Steps, Runs, IsHonest, AllHonest, RunsStaySound, RunsAnswerTruly}
-use Rattle.mp_core.specs.Sound.{EachWork, EpochsBelow, Yields, IsSoundState}
+use Rattle.mp_core.specs.Sound.{Yields, HasShape, IsSoundState}
 
 abbrev at : {G : Type 0} → Work G → Node G → ℕ → MachineState G
 at work n drawn = record { work = work; node = n; drawn = drawn }
 
-module _ {G : Type 0} (is_work : Work G → Type 0) (evals : Work G → Outcome G → Type 0) where
-  abbrev Sound : Work G → Node G → ℕ → Type 0
-  Sound work n drawn = IsSoundState is_work evals (record { work = work; node = n; drawn = drawn })
+-- one epoch stands in one leaf
+alone : (epoch : ℕ) → AllPairs (λ one other. one ≢ other) (epoch ∷ [])
+alone epoch i j d before within = absurd (omega arith)
 
-  issued : (spent : Bool) (s : MachineState G) (n : Node G) → IsSoundState is_work evals s → IsSoundState is_work evals (record s { node = n; drawn = s.drawn + 1 })
-      → IsSoundState is_work evals (if spent then s else record s { node = n; drawn = s.drawn + 1 })
-  issued true s n old new = old
-  issued false s n old new = new
+none_twice : AllPairs (λ (one : ℕ) (other : ℕ). one ≢ other) []
+none_twice i j d before within = absurd (omega arith)
 
-  claim_keeps : (work : Work G) (n : Node G) (drawn who : ℕ) → Sound work n drawn → IsSoundState is_work evals (claimed_by (record { work = work; node = n; drawn = drawn }) who).1
-  claim_keeps work (node.Todo w) drawn who h =
-      issued (drawn == last_epoch) _ _ h (record { works = h.works; epochs = omega arith; yields = h.yields })
-  claim_keeps work (node.Claimed epoch holder w) drawn who h = h
-  claim_keeps work (node.Done o) drawn who h = h
+module _ {G : Type 0} (is_work : Work G → Type 0) where
+  abbrev Shaped : Work G → Node G → ℕ → Type 0
+  Shaped work n drawn = HasShape is_work (at work n drawn)
+
+  claimed_shape : (work w : Work G) (epoch who drawn : ℕ) → is_work w → epoch < drawn + 1 → Shaped work (node.Claimed epoch who w) drawn
+  claimed_shape work w epoch who drawn ok below =
+      record { works = ok; distinct = alone epoch; below = All-cons (λ e. e < drawn + 1) epoch [] below (All-nil (λ e. e < drawn + 1)) }
+
+  todo_shape : (work w : Work G) (drawn : ℕ) → is_work w → Shaped work (node.Todo w) drawn
+  todo_shape work w drawn ok = record { works = ok; distinct = none_twice; below = All-nil (λ e. e < drawn + 1) }
+
+  done_shape : (work : Work G) (o : Outcome G) (drawn : ℕ) → Shaped work (node.Done o) drawn
+  done_shape work o drawn = record { works = tt; distinct = none_twice; below = All-nil (λ e. e < drawn + 1) }
+
+  issued_shape : (spent : Bool) (s : MachineState G) (n : Node G) → HasShape is_work s → Shaped s.work n (s.drawn + 1) → HasShape is_work (if spent then s else record s { node = n; drawn = s.drawn + 1 })
+  issued_shape true s n old new = old
+  issued_shape false s n old new = new
+
+  claim_shape : (work : Work G) (n : Node G) (drawn who : ℕ) → Shaped work n drawn → HasShape is_work (claimed_by (at work n drawn) who).1
+  claim_shape work (node.Todo w) drawn who h = issued_shape (drawn == last_epoch) _ _ h (claimed_shape work w (drawn + 1) who (drawn + 1) h.works (omega arith))
+  claim_shape work (node.Claimed epoch holder w) drawn who h = h
+  claim_shape work (node.Done o) drawn who h = h
 
   -- a claim that becomes worker 0's, or stays
-  reclaimed : (same : Bool) (work w : Work G) (epoch holder drawn : ℕ) → Sound work (node.Claimed epoch holder w) drawn
-      → Sound work (if same then claim_by w (drawn + 1) 0 else node.Claimed epoch holder w) (drawn + 1)
-  reclaimed true work w epoch holder drawn h = record { works = h.works; epochs = omega arith; yields = h.yields }
-  reclaimed false work w epoch holder drawn h = let e : epoch < drawn + 1 = h.epochs in record { works = h.works; epochs = omega arith; yields = h.yields }
+  reclaim_shape : (same : Bool) (work w : Work G) (epoch holder drawn : ℕ) → Shaped work (node.Claimed epoch holder w) drawn
+      → Shaped work (if same then claim_by w (drawn + 1) 0 else node.Claimed epoch holder w) (drawn + 1)
+  reclaim_shape true work w epoch holder drawn h = claimed_shape work w (drawn + 1) 0 (drawn + 1) h.works (omega arith)
+  reclaim_shape false work w epoch holder drawn h = let old : epoch < drawn + 1 = h.below 0 0 (omega arith) in claimed_shape work w epoch holder (drawn + 1) h.works (omega arith)
 
-  reissue_keeps : (work : Work G) (n : Node G) (drawn : ℕ) → Sound work n drawn → IsSoundState is_work evals (reissued (record { work = work; node = n; drawn = drawn })).1
-  reissue_keeps work (node.Todo w) drawn h = h
-  reissue_keeps work (node.Claimed epoch holder w) drawn h = issued (drawn == last_epoch) _ _ h (reclaimed (epoch == epoch) work w epoch holder drawn h)
-  reissue_keeps work (node.Done o) drawn h = h
+  reissue_shape : (work : Work G) (n : Node G) (drawn : ℕ) → Shaped work n drawn → HasShape is_work (reissued (at work n drawn)).1
+  reissue_shape work (node.Todo w) drawn h = h
+  reissue_shape work (node.Claimed epoch holder w) drawn h = issued_shape (drawn == last_epoch) _ _ h (reclaim_shape (epoch == epoch) work w epoch holder drawn h)
+  reissue_shape work (node.Done o) drawn h = h
 
-  or_keeps : (reply : Claimed G) (s : MachineState G) → IsSoundState is_work evals s → IsSoundState is_work evals (or_reissued (reply, s)).1
-  or_keeps (claimed.Ticket t) s h = h
-  or_keeps claimed.Nothing s h = reissue_keeps s.work s.node s.drawn h
-  or_keeps claimed.Finished s h = h
-  or_keeps claimed.Spent s h = h
+  or_shape : (reply : Claimed G) (s : MachineState G) → HasShape is_work s → HasShape is_work (or_reissued (reply, s)).1
+  or_shape (claimed.Ticket t) s h = h
+  or_shape claimed.Nothing s h = reissue_shape s.work s.node s.drawn h
+  or_shape claimed.Finished s h = h
+  or_shape claimed.Spent s h = h
 
-  next_keeps : (work : Work G) (n : Node G) (drawn : ℕ) → Sound work n drawn → IsSoundState is_work evals (next_for (record { work = work; node = n; drawn = drawn })).1
-  next_keeps work (node.Todo w) drawn h = or_keeps (issue_reply (at work (node.Todo w) drawn) w) (issue_state (at work (node.Todo w) drawn) (claim_by w (drawn + 1) 0)) (claim_keeps work (node.Todo w) drawn 0 h)
-  next_keeps work (node.Claimed epoch holder w) drawn h = reissue_keeps work (node.Claimed epoch holder w) drawn h
-  next_keeps work (node.Done o) drawn h = h
+  next_shape : (work : Work G) (n : Node G) (drawn : ℕ) → Shaped work n drawn → HasShape is_work (next_for (at work n drawn)).1
+  next_shape work (node.Todo w) drawn h = or_shape (issue_reply (at work (node.Todo w) drawn) w) (issue_state (at work (node.Todo w) drawn) (claim_by w (drawn + 1) 0)) (claim_shape work (node.Todo w) drawn 0 h)
+  next_shape work (node.Claimed epoch holder w) drawn h = reissue_shape work (node.Claimed epoch holder w) drawn h
+  next_shape work (node.Done o) drawn h = h
 
-  lost : (own : Bool) (work w : Work G) (epoch holder drawn : ℕ) → Sound work (node.Claimed epoch holder w) drawn
-      → Sound work (if own then node.Todo w else node.Claimed epoch holder w) drawn
-  lost true work w epoch holder drawn h = record { works = h.works; epochs = tt; yields = h.yields }
-  lost false work w epoch holder drawn h = h
+  give_shape : (own : Bool) (work w : Work G) (epoch holder drawn : ℕ) → Shaped work (node.Claimed epoch holder w) drawn → Shaped work (if own then node.Todo w else node.Claimed epoch holder w) drawn
+  give_shape true work w epoch holder drawn h = todo_shape work w drawn h.works
+  give_shape false work w epoch holder drawn h = h
 
-  lose_keeps : (work : Work G) (n : Node G) (drawn who : ℕ) → Sound work n drawn → IsSoundState is_work evals (lost_by (record { work = work; node = n; drawn = drawn }) who).1
-  lose_keeps work (node.Todo w) drawn who h = h
-  lose_keeps work (node.Claimed epoch holder w) drawn who h = lost (holder == who) work w epoch holder drawn h
-  lose_keeps work (node.Done o) drawn who h = h
+  lose_shape : (work : Work G) (n : Node G) (drawn who : ℕ) → Shaped work n drawn → HasShape is_work (lost_by (at work n drawn) who).1
+  lose_shape work (node.Todo w) drawn who h = h
+  lose_shape work (node.Claimed epoch holder w) drawn who h = give_shape (holder == who) work w epoch holder drawn h
+  lose_shape work (node.Done o) drawn who h = h
 
-  put : (same : Bool) (work w : Work G) (epoch holder drawn : ℕ) (o : Outcome G) → evals w o → Sound work (node.Claimed epoch holder w) drawn
-      → Sound work (if same then node.Done o else node.Claimed epoch holder w) drawn
-  put true work w epoch holder drawn o true_of h = record { works = tt; epochs = tt; yields = λ q e. subst (λ r. evals work r) (sym e) (h.yields o true_of) }
-  put false work w epoch holder drawn o true_of h = h
+  put_shape : (same : Bool) (work w : Work G) (epoch holder drawn : ℕ) (o : Outcome G) → Shaped work (node.Claimed epoch holder w) drawn → Shaped work (if same then node.Done o else node.Claimed epoch holder w) drawn
+  put_shape true work w epoch holder drawn o h = done_shape work o drawn
+  put_shape false work w epoch holder drawn o h = h
 
-  take_keeps : (work : Work G) (n : Node G) (drawn : ℕ) (p : Parcel G) → evals p.work p.outcome → HasClaim p.epoch p.work n → Sound work n drawn
-      → IsSoundState is_work evals (placed (record { work = work; node = n; drawn = drawn }) p)
-  take_keeps work (node.Todo w) drawn p honest due h = absurd due
-  take_keeps work (node.Claimed epoch holder w) drawn p honest due h = put (epoch == p.epoch) work w epoch holder drawn p.outcome (subst (λ v. evals v p.outcome) (sym due.1) honest) h
-  take_keeps work (node.Done o) drawn p honest due h = absurd due
+  place_shape : (work : Work G) (n : Node G) (drawn : ℕ) (p : Parcel G) → Shaped work n drawn → HasShape is_work (placed (at work n drawn) p)
+  place_shape work (node.Todo w) drawn p h = h
+  place_shape work (node.Claimed epoch holder w) drawn p h = put_shape (epoch == p.epoch) work w epoch holder drawn p.outcome h
+  place_shape work (node.Done o) drawn p h = h
 
-  pub report_keeps : (s : MachineState G) (p : Parcel G) (reply : Reported G) (new : MachineState G) → evals p.work p.outcome → Reports s p reply new
-      → IsSoundState is_work evals s → IsSoundState is_work evals new
-  report_keeps s p reported.Taken new honest r h = subst (λ t. IsSoundState is_work evals t) (sym r.1) (take_keeps s.work s.node s.drawn p honest r.0 h)
-  report_keeps s p (reported.Stale back) new honest r h = subst (λ t. IsSoundState is_work evals t) (sym r.2) h
-  report_keeps s p reported.TakenUnsettled new honest r h = absurd r
-  report_keeps s p (reported.NoMemory back) new honest r h = absurd r
+  moved_shape : (s new : MachineState G) → new ≡ s → HasShape is_work s → HasShape is_work new
+  moved_shape s new e h = subst (λ t. HasShape is_work t) (sym e) h
 
-  pub step_keeps : (s : MachineState G) (e : Event G) (new : MachineState G) → IsHonest evals e → Steps s e new → IsSoundState is_work evals s → IsSoundState is_work evals new
-  step_keeps s (Claim who) new honest step h = subst (λ t. IsSoundState is_work evals t) (sym step) (claim_keeps s.work s.node s.drawn who h)
-  step_keeps s (Report p) new honest step h = report_keeps s p step.0 new honest step.1 h
-  step_keeps s (Lose who) new honest step h = subst (λ t. IsSoundState is_work evals t) (sym step) (lose_keeps s.work s.node s.drawn who h)
-  step_keeps s Reissue new honest step h = subst (λ t. IsSoundState is_work evals t) (sym step) (reissue_keeps s.work s.node s.drawn h)
-  step_keeps s NextForCaller new honest step h = subst (λ t. IsSoundState is_work evals t) (sym step) (next_keeps s.work s.node s.drawn h)
+  stale_shape : (s : MachineState G) (p : Parcel G) (new : MachineState G) → IsStale s p new → HasShape is_work s → HasShape is_work new
+  stale_shape s p new (inl r) h = moved_shape s new r.1 h
+  stale_shape s p new (inr r) h = moved_shape (settle s) new r.2 h
 
-  pub run_keeps : (s : MachineState G) (es : List (Event G)) (end : MachineState G) → AllHonest evals es → Runs s es end → IsSoundState is_work evals s → IsSoundState is_work evals end
-  run_keeps s [] end honest run h = subst (λ t. IsSoundState is_work evals t) (sym run) h
-  run_keeps s (e ∷ es) end honest run h = run_keeps run.0 es end honest.1 run.2 (step_keeps s e run.0 honest.0 run.1 h)
+  report_shape : (s : MachineState G) (p : Parcel G) (reply : Reported G) (new : MachineState G) → Reports s p reply new → HasShape is_work s → HasShape is_work new
+  report_shape s p reported.Taken new r h = moved_shape _ new r.2 (place_shape s.work s.node s.drawn p h)
+  report_shape s p (reported.Stale back) new r h = stale_shape s p new r.1 h
+  report_shape s p reported.TakenUnsettled new r h = absurd r
+  report_shape s p (reported.NoMemory back) new r h = absurd r
 
-  pub opening_sound : (work : Work G) → is_work work → IsSoundState is_work evals (opening work)
-  opening_sound work ok = record { works = ok; epochs = tt; yields = λ o e. e }
+  -- each call keeps the shape
+  pub step_shape : (s : MachineState G) (e : Event G) (new : MachineState G) → Steps s e new → HasShape is_work s → HasShape is_work new
+  step_shape s (Claim who) new step h = moved_shape _ new step (claim_shape s.work s.node s.drawn who h)
+  step_shape s (Report p) new step h = report_shape s p step.0 new step.1 h
+  step_shape s (Lose who) new step h = moved_shape _ new step (lose_shape s.work s.node s.drawn who h)
+  step_shape s Reissue new step h = moved_shape _ new step (reissue_shape s.work s.node s.drawn h)
+  step_shape s NextForCaller new step h = moved_shape _ new step (next_shape s.work s.node s.drawn h)
 
-  answered : (work : Work G) (n : Node G) (drawn : ℕ) (o : Outcome G) → Sound work n drawn → done_of n ≡ Some o → evals work o
-  answered work (node.Todo w) drawn o h e = absurd (cc)
-  answered work (node.Claimed epoch holder w) drawn o h e = absurd (cc)
-  answered work (node.Done p) drawn o h e = h.yields o (cc)
+module _ {G : Type 0} (evals : Work G → Outcome G → Type 0) where
+  -- the new node yields no more than the old one
+  abbrev pub YieldsLess : Node G → Node G → Type 0
+  YieldsLess old new = (o : Outcome G) → Yields evals new o → Yields evals old o
 
-  -- what a sound state answers, its root work gives
-  pub answer_true : (s : MachineState G) (o : Outcome G) → IsSoundState is_work evals s → answer_of s ≡ Some o → evals s.work o
-  answer_true s o h e = answered s.work s.node s.drawn o h e
+  same_yield : (n : Node G) → YieldsLess n n
+  same_yield n o h = h
+
+  issued_yield : (spent : Bool) (s : MachineState G) (n : Node G) → YieldsLess s.node n → YieldsLess s.node (if spent then s else record s { node = n; drawn = s.drawn + 1 }).node
+  issued_yield true s n less = same_yield s.node
+  issued_yield false s n less = less
+
+  claim_yield : (work : Work G) (n : Node G) (drawn who : ℕ) → YieldsLess n (claimed_by (at work n drawn) who).1.node
+  claim_yield work (node.Todo w) drawn who = issued_yield (drawn == last_epoch) (at work (node.Todo w) drawn) (claim_by w (drawn + 1) who) (λ o h. h)
+  claim_yield work (node.Claimed epoch holder w) drawn who = same_yield (node.Claimed epoch holder w)
+  claim_yield work (node.Done o) drawn who = same_yield (node.Done o)
+
+  reclaim_yield : (same : Bool) (w : Work G) (epoch holder new : ℕ) → YieldsLess (node.Claimed epoch holder w) (if same then claim_by w new 0 else node.Claimed epoch holder w)
+  reclaim_yield true w epoch holder new o h = h
+  reclaim_yield false w epoch holder new o h = h
+
+  reissue_yield : (work : Work G) (n : Node G) (drawn : ℕ) → YieldsLess n (reissued (at work n drawn)).1.node
+  reissue_yield work (node.Todo w) drawn = same_yield (node.Todo w)
+  reissue_yield work (node.Claimed epoch holder w) drawn =
+      issued_yield (drawn == last_epoch) (at work (node.Claimed epoch holder w) drawn) _ (reclaim_yield (epoch == epoch) w epoch holder (drawn + 1))
+  reissue_yield work (node.Done o) drawn = same_yield (node.Done o)
+
+  or_yield : (old : Node G) (reply : Claimed G) (s : MachineState G) → YieldsLess old s.node → YieldsLess old (or_reissued (reply, s)).1.node
+  or_yield old (claimed.Ticket t) s less = less
+  or_yield old claimed.Nothing s less = λ o h. less o (reissue_yield s.work s.node s.drawn o h)
+  or_yield old claimed.Finished s less = less
+  or_yield old claimed.Spent s less = less
+
+  next_yield : (work : Work G) (n : Node G) (drawn : ℕ) → YieldsLess n (next_for (at work n drawn)).1.node
+  next_yield work (node.Todo w) drawn = or_yield (node.Todo w) (issue_reply (at work (node.Todo w) drawn) w) (issue_state (at work (node.Todo w) drawn) (claim_by w (drawn + 1) 0)) (claim_yield work (node.Todo w) drawn 0)
+  next_yield work (node.Claimed epoch holder w) drawn = reissue_yield work (node.Claimed epoch holder w) drawn
+  next_yield work (node.Done o) drawn = same_yield (node.Done o)
+
+  give_yield : (own : Bool) (w : Work G) (epoch holder : ℕ) → YieldsLess (node.Claimed epoch holder w) (if own then node.Todo w else node.Claimed epoch holder w)
+  give_yield true w epoch holder o h = h
+  give_yield false w epoch holder o h = h
+
+  lose_yield : (n : Node G) (who : ℕ) → YieldsLess n (give_back who n)
+  lose_yield (node.Todo w) who = same_yield (node.Todo w)
+  lose_yield (node.Claimed epoch holder w) who = give_yield (holder == who) w epoch holder
+  lose_yield (node.Done o) who = same_yield (node.Done o)
+
+  put_yield : (same : Bool) (w : Work G) (epoch holder : ℕ) (p : Outcome G) → evals w p → YieldsLess (node.Claimed epoch holder w) (if same then node.Done p else node.Claimed epoch holder w)
+  put_yield true w epoch holder p given o h = subst (λ r. evals w r) (sym h) given
+  put_yield false w epoch holder p given o h = h
+
+  place_yield : (n : Node G) (p : Parcel G) → evals p.work p.outcome → HasClaim p.epoch p.work n → YieldsLess n (place p.epoch (node.Done p.outcome) n)
+  place_yield (node.Todo w) p honest due = absurd due
+  place_yield (node.Claimed epoch holder w) p honest due = put_yield (epoch == p.epoch) w epoch holder p.outcome (subst (λ v. evals v p.outcome) (sym due.1) honest)
+  place_yield (node.Done o) p honest due = absurd due
+
+  moved_yield : (old : Node G) (s new : MachineState G) → new ≡ s → YieldsLess old s.node → YieldsLess old new.node
+  moved_yield old s new e less = subst (λ (t : MachineState G). YieldsLess old t.node) (sym e) less
+
+  stale_yield : (s : MachineState G) (p : Parcel G) (new : MachineState G) → IsStale s p new → YieldsLess s.node new.node
+  stale_yield s p new (inl r) = moved_yield s.node s new r.1 (same_yield s.node)
+  stale_yield s p new (inr r) = moved_yield s.node (settle s) new r.2 (same_yield s.node)
+
+  report_yield : (s : MachineState G) (p : Parcel G) (reply : Reported G) (new : MachineState G) → evals p.work p.outcome → Reports s p reply new → YieldsLess s.node new.node
+  report_yield s p reported.Taken new honest r = moved_yield s.node _ new r.2 (place_yield s.node p honest r.0)
+  report_yield s p (reported.Stale back) new honest r = stale_yield s p new r.1
+  report_yield s p reported.TakenUnsettled new honest r = absurd r
+  report_yield s p (reported.NoMemory back) new honest r = absurd r
+
+  -- after each call nothing is yielded that wasn't yielded before
+  pub step_yield : (s : MachineState G) (e : Event G) (new : MachineState G) → IsHonest evals e → Steps s e new → YieldsLess s.node new.node
+  step_yield s (Claim who) new honest step = moved_yield s.node _ new step (claim_yield s.work s.node s.drawn who)
+  step_yield s (Report p) new honest step = report_yield s p step.0 new honest step.1
+  step_yield s (Lose who) new honest step = moved_yield s.node _ new step (lose_yield s.node who)
+  step_yield s Reissue new honest step = moved_yield s.node _ new step (reissue_yield s.work s.node s.drawn)
+  step_yield s NextForCaller new honest step = moved_yield s.node _ new step (next_yield s.work s.node s.drawn)
 
 module _ {G : Type 0} where
   spent_same : (spent : Bool) (s : MachineState G) (n : Node G) → (if spent then s else record s { node = n; drawn = s.drawn + 1 }).work ≡ s.work
@@ -132,9 +213,13 @@ module _ {G : Type 0} where
   next_same work (node.Claimed epoch holder w) drawn = reissue_same work (node.Claimed epoch holder w) drawn
   next_same work (node.Done o) drawn = refl
 
+  stale_same : (s : MachineState G) (p : Parcel G) (new : MachineState G) → IsStale s p new → new.work ≡ s.work
+  stale_same s p new (inl r) = ap (λ (t : MachineState G). t.work) r.1
+  stale_same s p new (inr r) = ap (λ (t : MachineState G). t.work) r.2
+
   pub report_same : (s : MachineState G) (p : Parcel G) (reply : Reported G) (new : MachineState G) → Reports s p reply new → new.work ≡ s.work
-  report_same s p reported.Taken new r = ap (λ (t : MachineState G). t.work) r.1
-  report_same s p (reported.Stale back) new r = ap (λ (t : MachineState G). t.work) r.2
+  report_same s p reported.Taken new r = ap (λ (t : MachineState G). t.work) r.2
+  report_same s p (reported.Stale back) new r = stale_same s p new r.1
   report_same s p reported.TakenUnsettled new r = absurd r
   report_same s p (reported.NoMemory back) new r = absurd r
 
@@ -151,9 +236,36 @@ module _ {G : Type 0} where
   run_same s (e ∷ es) end run = run_same run.0 es end run.2 ∙ step_same s e run.0 run.1
 
 module _ {G : Type 0} (is_work : Work G → Type 0) (evals : Work G → Outcome G → Type 0) where
+  -- each call keeps soundness
+  pub step_keeps : (s : MachineState G) (e : Event G) (new : MachineState G) → IsHonest evals e → Steps s e new → IsSoundState is_work evals s → IsSoundState is_work evals new
+  step_keeps s e new honest step h = record {
+    shape = step_shape is_work s e new step h.shape;
+    yields = λ o y. subst (λ w. evals w o) (sym (step_same s e new step)) (h.yields o (step_yield evals s e new honest step o y));
+  }
+
+  pub report_keeps : (s : MachineState G) (p : Parcel G) (reply : Reported G) (new : MachineState G) → evals p.work p.outcome → Reports s p reply new
+      → IsSoundState is_work evals s → IsSoundState is_work evals new
+  report_keeps s p reply new honest r h = step_keeps s (Report p) new honest (reply, r) h
+
+  pub run_keeps : (s : MachineState G) (es : List (Event G)) (end : MachineState G) → AllHonest evals es → Runs s es end → IsSoundState is_work evals s → IsSoundState is_work evals end
+  run_keeps s [] end honest run h = subst (λ t. IsSoundState is_work evals t) (sym run) h
+  run_keeps s (e ∷ es) end honest run h = run_keeps run.0 es end honest.1 run.2 (step_keeps s e run.0 honest.0 run.1 h)
+
+  pub opening_sound : (work : Work G) → is_work work → IsSoundState is_work evals (opening work)
+  opening_sound work ok = record { shape = todo_shape is_work work work 0 ok; yields = λ o e. e }
+
+  answered : (work : Work G) (n : Node G) (drawn : ℕ) (o : Outcome G) → IsSoundState is_work evals (at work n drawn) → done_of n ≡ Some o → evals work o
+  answered work (node.Todo w) drawn o h e = absurd (cc)
+  answered work (node.Claimed epoch holder w) drawn o h e = absurd (cc)
+  answered work (node.Done p) drawn o h e = h.yields o (cc)
+
+  -- what a sound state answers, its root work gives
+  pub answer_true : (s : MachineState G) (o : Outcome G) → IsSoundState is_work evals s → answer_of s ≡ Some o → evals s.work o
+  answer_true s o h e = answered s.work s.node s.drawn o h e
+
   pub runs_stay_sound : (work : Work G) → is_work work → RunsStaySound evals is_work work
-  runs_stay_sound work ok es end honest run = run_keeps is_work evals (opening work) es end honest run (opening_sound is_work evals work ok)
+  runs_stay_sound work ok es end honest run = run_keeps (opening work) es end honest run (opening_sound work ok)
 
   pub runs_answer_truly : (work : Work G) → is_work work → RunsAnswerTruly evals work
   runs_answer_truly work ok es end honest run o e =
-      subst (λ w. evals w o) (run_same (opening work) es end run) (answer_true is_work evals end o (runs_stay_sound work ok es end honest run) e)
+      subst (λ w. evals w o) (run_same (opening work) es end run) (answer_true end o (runs_stay_sound work ok es end honest run) e)

@@ -1,5 +1,5 @@
 -- What a sound core answers is valid for the root goal.
-use Rattle.std.proofs.Common.{◌≡◌, ℕ, List, Some}
+use Rattle.std.proofs.Common.{List}
 use Rattle.mp_logic.specs.Steps as steps
 use Rattle.mp_strategy.specs.declared.tactic.Tac.{Tac}
 use Rattle.mp_strategy.specs.declared.work.Work.{Work}

@@ -6,7 +6,7 @@ use Rattle.mp_core.specs.declared.state.MachineState.{MachineState}
 use Rattle.mp_core.specs.declared.state.Parcel.{Parcel}
 use Rattle.mp_core.specs.declared.core_calls.Reported.{Reported}
 use Rattle.mp_core.specs.Machine.{opening, claimed_by, reissued, next_for, lost_by, Reports, answer_of}
-use Rattle.mp_core.specs.Sound.{IsSoundState}
+use Rattle.mp_core.specs.Sound.{Yields, HasShape, IsSoundState}
 
 -- one call; a report may be of any parcel, late or for a second time
 pub data Event (G : Type 0) : Type 0 where
@@ -46,6 +46,15 @@ module _ {G : Type 0} (evals : Work G → Outcome G → Type 0) where
   -- a call on a sound state leaves a sound one
   abbrev pub CallsKeepSound : (Work G → Type 0) → Type 0
   CallsKeepSound is_work = (s : MachineState G) (e : Event G) (new : MachineState G) → IsHonest e → Steps s e new → IsSoundState is_work evals s → IsSoundState is_work evals new
+
+  -- a call on a state of good shape leaves one
+  abbrev pub CallsKeepShape : (Work G → Type 0) → Type 0
+  CallsKeepShape is_work = (s : MachineState G) (e : Event G) (new : MachineState G) → IsHonest e → Steps s e new → HasShape is_work s → HasShape is_work new
+
+  -- and what it leaves yields no outcome that wasn't yielded before
+  abbrev pub CallsYieldNoMore : (Work G → Type 0) → Type 0
+  CallsYieldNoMore is_work = (s : MachineState G) (e : Event G) (new : MachineState G) → IsHonest e → Steps s e new → HasShape is_work s
+      → (o : Outcome G) → Yields evals new.node o → Yields evals s.node o
 
   -- from the start of a work, whatever happens, each state is sound
   abbrev pub RunsStaySound : (Work G → Type 0) → Work G → Type 0

@@ -1,12 +1,11 @@
 -- The core's machine: its states, and what each call answers and leaves.
-use Rattle.std.specs.Prelude.{◌≡◌, ℕ, ◌+◌, ◌==◌, if◌then◌else◌, Bool, Some, None}
+use Rattle.std.specs.Prelude.{◌≡◌, ◌⊎◌, ℕ, ◌+◌, ◌==◌, if◌then◌else◌, Some, None}
 use Rattle.std.specs.declared.option.Option.{Option}
 use Rattle.mp_strategy.specs.declared.work.Work.{Work}
 use Rattle.mp_strategy.specs.declared.outcome.Outcome.{Outcome}
 use Rattle.mp_core.specs.declared.node.Node.{Node}
 use Rattle.mp_core.specs.declared.node.Node.TheVariants as node
 use Rattle.mp_core.specs.declared.state.MachineState.{MachineState}
-use Rattle.mp_core.specs.declared.state.Ticket.{Ticket}
 use Rattle.mp_core.specs.declared.state.Parcel.{Parcel}
 use Rattle.mp_core.specs.declared.core_calls.Claimed.{Claimed}
 use Rattle.mp_core.specs.declared.core_calls.Claimed.TheVariants as claimed
@@ -84,11 +83,16 @@ module _ {G : Type 0} where
   abbrev pub placed : MachineState G → Parcel G → MachineState G
   placed s p = record s { node = place p.epoch (node.Done p.outcome) s.node }
 
-  -- `report(p)`: Taken exactly where the parcel is due, and it is placed then; else Stale, and nothing changes.
-  -- With one job nothing is left unsettled and no memory is taken.
+  -- the parcel isn't due, and nothing changes; or what was left over is settled, and that withdraws the job: the settled
+  -- state stays then
+  abbrev pub IsStale : MachineState G → Parcel G → MachineState G → Type 0
+  IsStale s p new = ((IsDue s p → ⊥) × (new ≡ s)) ⊎ (IsDue s p × (IsDue (settle s) p → ⊥) × (new ≡ settle s))
+
+  -- `report(p)`: Taken exactly where the parcel is due, and still is once what was left over is settled: it is placed
+  -- then, and the state is settled; else it is Stale, and comes back. With one job no memory is taken.
   abbrev pub Reports : MachineState G → Parcel G → Reported G → MachineState G → Type 0
-  Reports s p reported.Taken new = IsDue s p × (new ≡ settle (placed (settle s) p))
-  Reports s p (reported.Stale back) new = (IsDue s p → ⊥) × (back ≡ p) × (new ≡ s)
+  Reports s p reported.Taken new = IsDue s p × IsDue (settle s) p × (new ≡ settle (placed (settle s) p))
+  Reports s p (reported.Stale back) new = (back ≡ p) × IsStale s p new
   Reports s p reported.TakenUnsettled new = ⊥
   Reports s p (reported.NoMemory back) new = ⊥
 

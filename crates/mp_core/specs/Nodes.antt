@@ -1,5 +1,5 @@
 -- What a machine asks of a node and does to it. A node here is one job, to do, claimed or done.
-use Rattle.std.specs.Prelude.{◌≡◌, ℕ, ◌==◌, if◌then◌else◌, Some, None}
+use Rattle.std.specs.Prelude.{◌≡◌, ℕ, ◌==◌, if◌then◌else◌, List, [], ◌∷◌, Some, None}
 use Rattle.std.specs.declared.option.Option.{Option}
 use Rattle.mp_strategy.specs.declared.work.Work.{Work}
 use Rattle.mp_strategy.specs.declared.outcome.Outcome.{Outcome}
@@ -67,3 +67,9 @@ abbrev pub place : {G : Type 0} → ℕ → Node G → Node G → Node G
 place epoch new (node.Todo work) = node.Todo work
 place epoch new (node.Claimed own who work) = if own == epoch then new else node.Claimed own who work
 place epoch new (node.Done o) = node.Done o
+
+-- the epochs under which the jobs of a node are claimed
+abbrev pub epochs_of : {G : Type 0} → Node G → List ℕ
+epochs_of (node.Todo work) = []
+epochs_of (node.Claimed epoch who work) = epoch ∷ []
+epochs_of (node.Done o) = []

@@ -1,4 +1,4 @@
-ghost use Rattle.std.specs.Prelude.{◌≡◌, ◌+◌, ◌<◌, IfOk, MatchResult, IfSome};
+ghost use Rattle.std.specs.Prelude.{◌≡◌, ◌≢◌, ◌+◌, ◌<◌, IfOk, MatchResult, IfSome};
 ghost use Rattle.std.specs.Option.{option_copied};
 ghost use Rattle.mp_core.specs.Machine.{opening, claimed_by, reissued, next_for, Reports, lost_by, answer_of, issue_reply, issue_state};
 ghost use Rattle.mp_core.specs.Nodes.{claim_by};
@@ -35,7 +35,8 @@ pub enum Reported<G> {
     Taken,
     /// The parcel is in, and for want of memory the next call settles on. A core of one job never answers this.
     TakenUnsettled,
-    /// No job is claimed under the parcel's epoch with its work. Nothing changed, and the parcel comes back.
+    /// No job is claimed under the parcel's epoch with its work, or none is once what was left over is settled. The
+    /// parcel comes back, and nothing changed but for those settlements, of which a core of one job has none.
     Stale(Parcel<G>),
     /// Want of memory: the parcel comes back. A core of one job never answers this.
     NoMemory(Parcel<G>),
@@ -144,6 +145,7 @@ impl<'p, L: Logic> Core<'p, L> {
     pub fn next_for_caller(&mut self, alloc: Global) -> Result<Claimed<L::Goal>, NoMemory>
         ensures reply { IfOk result (λ r. r ≡ (next_for self.old.machine).0) }
         ensures state { MatchResult result (λ _. self.new ≡ moved self.old (next_for self.old.machine).1) (λ _. self.new ≡ self.old) }
+        ensures never_nothing { IfOk result (λ r. r ≢ Claimed.Nothing) }
         ensures sound { IsSoundCore L.good L.step_of self.old → IsSoundCore L.good L.step_of self.new }
         ensures work { IsSoundCore L.good L.step_of self.old → IfOk result (TicketHas (IsWork (L.good self.old.logic) self.old.tacs)) }
     {
@@ -153,8 +155,9 @@ impl<'p, L: Logic> Core<'p, L> {
         }
     }
 
-    /// Takes the parcel where a job is claimed under its epoch with its work: the job is done then, with the
-    /// parcel's outcome. Else the parcel is Stale and comes back, and nothing changes. It takes no memory.
+    /// Takes the parcel where a job is claimed under its epoch with its work, also once what was left over is
+    /// settled: the job is done then, with the parcel's outcome. Else the parcel is Stale and comes back, and
+    /// nothing changes but for those settlements, of which a core of one job has none. It takes no memory.
     pub fn report(&mut self, parcel: Parcel<L::Goal>) -> Reported<L::Goal>
         requires { Evals (L.step_of self.old.logic) self.old.justs self.old.tacs parcel.work parcel.outcome }
         ensures state { self.new ≡ moved self.old self.new.machine }

@@ -36,12 +36,14 @@ module _ {G : Type 0} (eval : Work G → Outcome G) (decide : (a b : Work G) →
   decide_claim epoch work (node.Claimed own who held) = decide_both (cases_eq own epoch) (decide held work)
   decide_claim epoch work (node.Done o) = inr (λ h. h)
 
-  deliver_by : (s : MachineState G) (p : Parcel G) → IsDue s p ⊎ (IsDue s p → ⊥) → (r : Reply) × (new : MachineState G) × Delivers s p r new
-  deliver_by s p (inl due) = (reply.Taken, settle (placed (settle s) p), (due, refl))
-  deliver_by s p (inr not-due) = (reply.Stale, s, (not-due, refl, refl))
+  deliver_by : (s : MachineState G) (p : Parcel G) → IsDue s p ⊎ (IsDue s p → ⊥) → IsDue (settle s) p ⊎ (IsDue (settle s) p → ⊥)
+      → (r : Reply) × (new : MachineState G) × Delivers s p r new
+  deliver_by s p (inl due) (inl still) = (reply.Taken, settle (placed (settle s) p), (due, still, refl))
+  deliver_by s p (inl due) (inr withdrawn) = (reply.Stale, settle s, (refl, inr (due, withdrawn, refl)))
+  deliver_by s p (inr not-due) now = (reply.Stale, s, (refl, inl (not-due, refl)))
 
   some_delivery : (s : MachineState G) (p : Parcel G) → (r : Reply) × (new : MachineState G) × Delivers s p r new
-  some_delivery s p = deliver_by s p (decide_claim p.epoch p.work s.node)
+  some_delivery s p = deliver_by s p (decide_claim p.epoch p.work s.node) (decide_claim p.epoch p.work (settle s).node)
 
   some_handing : (given : Claimed G × MachineState G) (who : ℕ) (w : World G) → (r : Reply) × (new : World G) × Handed given who w r new
   some_handing given who w = (claim_reply given.0, record { machine = given.1; workers = hand_over given.0 who w.workers }, (refl, refl))

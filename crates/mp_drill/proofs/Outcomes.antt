@@ -1,5 +1,5 @@
 -- Whatever the schedule, a trace ends with what the root work evaluates to.
-use Rattle.std.proofs.Common.{◌≡◌, ℕ, suc, ◌<◌, ◌≤◌, List, [], ◌∷◌, Some, None, length, All, IfSome, slice_set, refl, sym, subst, ap, ◌∙◌, inl, inr}
+use Rattle.std.proofs.Common.{◌≡◌, ℕ, suc, List, [], ◌∷◌, Some, None, length, All, IfSome, refl, sym, subst, ap, ◌∙◌, inl, inr}
 use Rattle.std.specs.Prelude.{⊤}
 use Rattle.std.specs.declared.option.Option.{Option}
 use Rattle.std.proofs.lemmas.Bool.{cases_lt}
@@ -14,7 +14,7 @@ use Rattle.mp_core.specs.declared.core_calls.Claimed.{Claimed}
 use Rattle.mp_core.specs.declared.core_calls.Claimed.TheVariants as claimed
 use Rattle.mp_core.specs.declared.core_calls.Reported.{Reported}
 use Rattle.mp_core.specs.declared.core_calls.Reported.TheVariants as reported
-use Rattle.mp_core.specs.Machine.{opening, next_for, claimed_by, reissued, lost_by, Reports}
+use Rattle.mp_core.specs.Machine.{next_for, claimed_by, reissued, lost_by, Reports}
 use Rattle.mp_core.specs.Events.{Event as Call, Claim, Lose, Reissue, NextForCaller, IsHonest, Steps}
 use Rattle.mp_core.specs.Sound.{IsSoundState}
 use Rattle.mp_core.proofs.Soundness.{step_keeps, step_same, report_keeps, report_same, opening_sound, answer_true}
@@ -23,7 +23,7 @@ use Rattle.mp_drill.specs.declared.schedule.Event.TheVariants as event
 use Rattle.mp_drill.specs.declared.schedule.Reply.{Reply}
 use Rattle.mp_drill.specs.declared.schedule.Reply.TheVariants as reply
 use Rattle.mp_drill.specs.declared.workers.Worker.{Worker}
-use Rattle.mp_drill.specs.Workers.{World, idle, worker_at, with_hand, first_world}
+use Rattle.mp_drill.specs.Workers.{World, idle, worker_at, first_world}
 use Rattle.mp_drill.specs.Rounds.{evaluated, Rounds, finished, spent, round}
 use Rattle.mp_drill.specs.Trace.{hand_over, Handed, Delivers, Sends, Repeats, Happens, Replies, IsTrace}
 

@@ -1,5 +1,5 @@
 -- What a round of the caller does.
-use Rattle.std.proofs.Common.{◌≡◌, ℕ, Result, Ok, Err, IfOk, ◌+◌, ◌<◌, ◌==◌, Bool, IsTrue, rules, true, false, Some, refl, sym, subst, ap, ◌∙◌, if◌then◌else◌, arith}
+use Rattle.std.proofs.Common.{inl, inr, ◌≡◌, ℕ, Result, Ok, Err, IfOk, ◌+◌, ◌<◌, ◌==◌, Bool, IsTrue, rules, true, false, Some, refl, sym, subst, ap, ◌∙◌, if◌then◌else◌, arith}
 use Rattle.mp_strategy.specs.declared.work.Work.{Work}
 use Rattle.mp_strategy.specs.declared.outcome.Outcome.{Outcome}
 use Rattle.mp_core.specs.declared.node.Node.{Node}
@@ -9,10 +9,9 @@ use Rattle.mp_core.specs.declared.state.Ticket.{Ticket}
 use Rattle.mp_core.specs.declared.state.Parcel.{Parcel}
 use Rattle.mp_core.specs.declared.core_calls.Claimed.{Claimed}
 use Rattle.mp_core.specs.declared.core_calls.Claimed.TheVariants as claimed
-use Rattle.mp_core.specs.declared.core_calls.Reported.{Reported}
 use Rattle.mp_core.specs.declared.core_calls.Reported.TheVariants as reported
 use Rattle.mp_core.specs.Nodes.{claim_by, place}
-use Rattle.mp_core.specs.Machine.{last_epoch, issue_reply, issue_state, next_for, or_reissued, placed, settle, IsDue, Reports, answer_of}
+use Rattle.mp_core.specs.Machine.{last_epoch, next_for, or_reissued, placed, settle, IsDue, IsStale, Reports, answer_of}
 use Rattle.mp_core.specs.Events.{NextForCaller}
 use Rattle.mp_core.proofs.Soundness.{step_same, report_same}
 use Rattle.mp_drill.specs.declared.schedule.Reply.{Reply}
@@ -78,11 +77,15 @@ module _ {G : Type 0} where
   placed_by : (n : MachineState G) (p : Parcel G) → n.node ≡ node.Claimed p.epoch 0 p.work → (placed n p).node ≡ node.Done p.outcome
   placed_by n p e = ap (λ (q : Node G). place p.epoch (node.Done p.outcome) q) e ∙ taken_if (p.epoch == p.epoch) (same_epoch p.epoch) _ _
 
+  not_stale : (n : MachineState G) (p : Parcel G) (new : MachineState G) → n.node ≡ node.Claimed p.epoch 0 p.work → IsStale n p new → ⊥
+  not_stale n p new e (inl stale) = stale.0 (due_by n _ p e refl)
+  not_stale n p new e (inr stale) = stale.1 (due_by (settle n) _ p e refl)
+
   -- the caller's parcel is taken, and nothing is left
   pub delivered : (n : MachineState G) (p : Parcel G) (r : Reply) (new : MachineState G) → n.node ≡ node.Claimed p.epoch 0 p.work → Delivers n p r new
       → Reports n p reported.Taken new × (weight_at new.node ≡ 0)
-  delivered n p reply.Taken new e h = (h, ap (λ (s : MachineState G). weight_at s.node) h.1 ∙ ap weight_at (placed_by n p e))
-  delivered n p reply.Stale new e h = absurd (h.0 (due_by n _ p e refl))
+  delivered n p reply.Taken new e h = (h, ap (λ (s : MachineState G). weight_at s.node) h.2 ∙ ap weight_at (placed_by n p e))
+  delivered n p reply.Stale new e h = absurd (not_stale n p new e h.1)
   delivered n p (reply.Ticket k) new e h = absurd h
   delivered n p reply.Nothing new e h = absurd h
   delivered n p reply.Finished new e h = absurd h

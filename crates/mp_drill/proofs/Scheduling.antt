@@ -1,5 +1,5 @@
 -- A schedule from its first event to its last.
-use Rattle.std.proofs.Common.{◌≡◌, ℕ, suc, ◌+◌, ◌<◌, ◌≤◌, Bool, true, false, IsTrue, List, [], ◌∷◌, ◌++◌, get_or, length, drop, All, replicate, refl, sym, subst, ap, ◌∙◌, add-one, append_assoc, append-nil, drop-cons}
+use Rattle.std.proofs.Common.{◌≡◌, ℕ, ◌+◌, ◌<◌, ◌≤◌, Bool, true, false, IsTrue, List, [], ◌∷◌, ◌++◌, get_or, length, drop, All, replicate, refl, sym, subst, ap, ◌∙◌, add-one, append_assoc, append-nil, drop-cons}
 use Rattle.std.proofs.lemmas.List.{length-replicate, drop_all}
 use Rattle.std.proofs.lemmas.List.Elements.{All-replicate}
 use Rattle.std.proofs.lemmas.List.Folds.{list_all_at}

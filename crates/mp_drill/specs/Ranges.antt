@@ -1,5 +1,5 @@
 -- The events of a schedule.
-use Rattle.std.specs.Prelude.{ℕ, Bool, true, ◌&&◌, nat_le, List}
+use Rattle.std.specs.Prelude.{Bool, true, ◌&&◌, nat_le, List}
 use Rattle.std.specs.List.{list_all}
 use Rattle.mp_drill.specs.declared.schedule.Event.{Event}
 use Rattle.mp_drill.specs.declared.schedule.Event.TheVariants as event

@@ -4,7 +4,6 @@ use Rattle.std.specs.declared.option.Option.{Option}
 use Rattle.mp_strategy.specs.declared.work.Work.{Work}
 use Rattle.mp_core.specs.declared.state.MachineState.{MachineState}
 use Rattle.mp_core.specs.declared.state.Ticket.{Ticket}
-use Rattle.mp_core.specs.declared.state.Parcel.{Parcel}
 use Rattle.mp_core.specs.Machine.{opening}
 use Rattle.mp_drill.specs.declared.workers.Worker.{Worker}
 

@@ -7,3 +7,4 @@ pub mod Longest
 pub mod Passes
 pub mod Runs
 pub mod Strings
+pub mod Whole

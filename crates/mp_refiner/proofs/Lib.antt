@@ -1,6 +1,5 @@
-pub mod Founds
+pub mod Giving
 pub mod Kids
-pub mod Named
-pub mod Ops
-pub mod Room
+pub mod Rules
+pub mod Stepping
 pub mod Whole

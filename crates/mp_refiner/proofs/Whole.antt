@@ -1,46 +1,155 @@
--- The step by a rule of a table.
-use Rattle.std.proofs.Common.{◌≡◌, ℕ, List, Option, Some, None, IsTrue, refl, sym}
-use Rattle.std.specs.Prelude.{slice_get, IfSome, IfOk, Ok, Err, Result}
-use Rattle.mp_logic.specs.declared.logic.StepErr.{StepErr}
-use Rattle.mp_logic.specs.Steps.{Outcome, IsAnswer}
-use Rattle.std.specs.Option.{option_copied}
+-- A step by a rule is what instances say.
+use Rattle.std.proofs.Common.{◌≡◌, inl, inr, ℕ, List, [], ◌∷◌, map, Bool, true, false, Option, Some, None, if◌then◌else◌, refl, sym, ap, ◌∙◌, subst}
+use Rattle.std.specs.Prelude.{◌↔◌, IsTrue, Ok, Err, slice_get}
 use Rattle.std.specs.List.{list_all}
-use denote.Bor.{Bor}
+use Rattle.mp_logic.specs.declared.logic.Why.TheVariants.{NoMatch, BadArgument, TooLarge}
+use Rattle.mp_logic.specs.Steps.{Outcome}
 use Rattle.mp_term.specs.declared.sequent.Sequent.{Sequent}
-use Rattle.mp_refiner.specs.declared.rule.Rule.{Rule}
-use Rattle.mp_refiner.specs.declared.just.Just.{Just}
-use Rattle.mp_refiner.specs.Justs.{rule_place}
-use Rattle.mp_refiner.specs.Law.{IsStepBy}
-use Rattle.mp_refiner.specs.Steps.{step_by, outcome_of, is_good, width_of_rules}
-use Rattle.mp_refiner.specs.Tables.{is_faultless}
-use Rattle.mp_refiner.specs.laws.Goods.{AllGood, AtMost, rule_keeps_good, rule_narrow, wide}
-use Rattle.mp_refiner.specs.laws.Instance.{ok_law, none_law, large_law, one_law}
-use Rattle.mp_refiner.proofs.Named.{faultless-at, faultless-rule}
+use Rattle.mp_term.specs.Limits.{within_limits_of}
+use Rattle.mp_schema.specs.declared.instance.Inst.{Inst}
+use Rattle.mp_schema.specs.declared.schema.Schema.{Schema}
+use Rattle.mp_schema.specs.Sequents.{Instance, seq, schema_fits}
+use Rattle.mp_schema.specs.Values.{instance_of}
+use Rattle.mp_match.specs.Solutions.{Agrees, GivesGoal}
+use Rattle.mp_match.specs.Walks.{match_of}
+use Rattle.mp_theory.specs.declared.rule.Rule.{Rule}
+use Rattle.mp_theory.specs.declared.just.Given.{Given}
+use Rattle.mp_theory.specs.declared.just.Just.TheVariants as just
+use Rattle.mp_theory.specs.Needs.{needs_of}
+use Rattle.mp_theory.specs.Tables.{IsRule}
+use Rattle.mp_refiner.specs.Law.{Misgiven, LargeStep, IsStepBy}
+use Rattle.mp_refiner.specs.RuleStep.{MeetsAll, RuleStep}
+use Rattle.mp_theory.specs.Allowed.{is_allowed, is_allowed_at, is_good}
+use Rattle.mp_refiner.specs.Steps.{given_all, outcome_given, outcome_matched, outcome_of, outcome_at, step_by}
+use Rattle.mp_refiner.specs.laws.Asked.{IsAsked, asked}
+use Rattle.mp_refiner.specs.laws.Filled.{agrees_itself, gives_first, agrees_given, gives_made, meets_made, same_kid, premise_fits}
+use Rattle.mp_refiner.specs.laws.Lists.{In, value_or, in-each, each-all}
+use Rattle.mp_refiner.specs.laws.Matched.{no_match}
 
-pub rule_at_faultless : (rules : List Rule) (place : ℕ) (found : Option (Bor Rule)) → IsTrue (list_all is_faultless rules) → option_copied found ≡ slice_get rules place →
-    IfSome found (λ rule. IsTrue (is_faultless rule.now))
-rule_at_faultless rules place None all e = tt
-rule_at_faultless rules place (Some rule) all e = faultless-at rules place rule.now all (sym e)
+abbrev kids_or : List Sequent → Outcome Sequent → List Sequent
+kids_or d (Ok kids) = kids
+kids_or d (Err e) = d
 
-pub whole_law : (rules : List Rule) (goal : Sequent) → IsTrue (list_all is_faultless rules) → (j : Just) (rule : Rule) → slice_get rules (rule_place j) ≡ Some rule → IsStepBy rules j rule goal
-whole_law rules goal all j rule e =
-    let covers = (faultless-rule rule (faultless-at rules (rule_place j) rule all e)).covered in
-    let is : step_by rules j goal ≡ outcome_of rule goal = rw e refl in
-    record {
-      kids = λ kids. rw is (ok_law rule goal covers kids);
-      no_match = rw is (none_law rule goal covers);
-      too_large = rw is (large_law rule goal covers);
-      one = one_law rule goal covers;
-    }
+module _ (rule : Rule) (first : Option ℕ) (given : List Given) (goal : Sequent) where
+  -- the outcome is what instances say
+  pub record IsStep (o : Outcome Sequent) : Type 0 where
+    pub kids : (kids : List Sequent) → (o ≡ Ok kids) ↔ (RuleStep rule first given goal kids × (list_all within_limits_of kids ≡ true))
+    pub no_match : (o ≡ Err NoMatch) ↔ ((v : Instance) → GivesGoal rule.concl first goal v → ⊥)
+    pub bad_argument : (o ≡ Err BadArgument) ↔ Misgiven rule first given goal
+    pub too_large : (o ≡ Err TooLarge) ↔ LargeStep rule first given goal
+    pub one : (kids others : List Sequent) → RuleStep rule first given goal kids → RuleStep rule first given goal others → kids ≡ others
 
--- what holds of the outcome's subgoals holds of the answer's
-answer_has : (P : List Sequent → Type 0) (o : Outcome Sequent) (r : Result (List Sequent) StepErr) → IsAnswer o r → IfOk o P → IfOk r P
-answer_has P o (Ok kids) a h = rw a at h
-answer_has P o (Err e) a h = tt
+  module _ (needs : rule.needs ≡ needs_of rule.premises rule.concl) (a : IsAsked rule.premises rule.concl first given goal) where
+    none_case : match_of rule.concl first goal ≡ None → IsStep (Err NoMatch)
+    none_case e =
+        let none = no_match rule.concl first goal a.rule.conclusion a.two a.scoped a.narrow e in
+        record {
+          kids = λ kids. (λ k. absurd cc, λ s. absurd (none s.0.instance s.0.match));
+          no_match = (λ k. none, λ h. refl);
+          bad_argument = (λ k. absurd cc, λ m. absurd (none m.instance m.match));
+          too_large = (λ k. absurd cc, λ l. absurd (none l.step.instance l.step.match));
+          one = λ kids others s t. absurd (none s.instance s.match);
+        }
 
-pub answer_good : (rule : Rule) (goal : Sequent) (r : Result (List Sequent) StepErr) → IsTrue (is_good goal) → IsAnswer (outcome_of rule goal) r → IfOk r AllGood
-answer_good rule goal r good a = answer_has AllGood (outcome_of rule goal) r a (rule_keeps_good rule goal good)
+    module _ (i : Inst) (is : match_of rule.concl first goal ≡ Some i) where
+      -- an instance that gives the goal and meets the needs agrees with what is given
+      agrees_with : (v : Instance) → GivesGoal rule.concl first goal v → MeetsAll v rule.concl rule.needs given →
+          (new : Inst) × ((given_all (needs_of rule.premises rule.concl) given i ≡ Some new) × Agrees v new)
+      agrees_with v g m = agrees_given rule.premises rule.concl first given goal a i is v g (subst (λ ns. MeetsAll v rule.concl ns given) needs m)
 
-pub answer_narrow : (rules : List Rule) (place : ℕ) (rule : Rule) (goal : Sequent) (r : Result (List Sequent) StepErr) → Some rule ≡ slice_get rules place → IsAnswer (outcome_of rule goal) r →
-    IfOk r (AtMost (width_of_rules rules))
-answer_narrow rules place rule goal r e a = answer_has _ (outcome_of rule goal) r a (rule_narrow rule goal (width_of_rules rules) (wide rules place rule (sym e)))
+      bad_case : given_all (needs_of rule.premises rule.concl) given i ≡ None → IsStep (Err BadArgument)
+      bad_case e =
+          let none = λ (v : Instance) (g : GivesGoal rule.concl first goal v) (m : MeetsAll v rule.concl rule.needs given). unmet (agrees_with v g m) in
+          record {
+            kids = λ kids. (λ k. absurd cc, λ s. absurd (none s.0.instance s.0.match s.0.meets));
+            no_match = (λ k. absurd cc, λ h. absurd (h (instance_of i) (gives_first rule.premises rule.concl first given goal a i is)));
+            bad_argument = (λ k. record { instance = instance_of i; match = gives_first rule.premises rule.concl first given goal a i is; none = none }, λ m. refl);
+            too_large = (λ k. absurd cc, λ l. absurd (none l.step.instance l.step.match l.step.meets));
+            one = λ kids others s t. absurd (none s.instance s.match s.meets);
+          }
+        where
+          unmet : {P : Inst → Type 0} → (new : Inst) × ((given_all (needs_of rule.premises rule.concl) given i ≡ Some new) × P new) → ⊥
+          unmet (new, (k, p)) = absurd (cc (sym e ∙ k))
+
+      module _ (new : Inst) (all : given_all (needs_of rule.premises rule.concl) given i ≡ Some new) where
+        abbrev made : Instance
+        made = instance_of new
+
+        abbrev found : List Sequent
+        found = map (seq made) rule.premises
+
+        gives : GivesGoal rule.concl first goal made
+        gives = gives_made rule.premises rule.concl first given goal a i is new all
+
+        meets : MeetsAll made rule.concl (needs_of rule.premises rule.concl) given
+        meets = meets_made rule.premises rule.concl first given goal a i is new all
+
+        fits : list_all (schema_fits made) rule.premises ≡ true
+        fits =
+            each-all (schema_fits made) rule.premises
+            (in-each (λ p. schema_fits made p ≡ true) rule.premises (premise_fits made rule.premises rule.concl first given goal a gives.fit meets))
+
+        step_found : RuleStep rule first given goal found
+        step_found = record {
+          instance = made;
+          match = gives;
+          meets = subst (λ ns. MeetsAll made rule.concl ns given) (sym needs) meets;
+          fits = fits;
+          kids_are = refl;
+        }
+
+        same_each : (v : Instance) → Agrees v new → (ps : List Schema) → ((p : Schema) → In p ps → In p rule.premises) → map (seq v) ps ≡ map (seq made) ps
+        same_each v x [] k = refl
+        same_each v x (p ∷ ps) k =
+            let here = same_kid rule.premises rule.concl first given goal a i is new all v made x (agrees_itself new) p (k p (inl refl)) in
+            let rest = same_each v x ps (λ q j. k q (inr j)) in
+            rw (here, rest) refl
+
+        only : (kids : List Sequent) → RuleStep rule first given goal kids → kids ≡ found
+        only kids s =
+            let r = agrees_with s.instance s.match s.meets in
+            let same : r.0 ≡ new = ap (value_or new) (sym r.1.0 ∙ all) in
+            s.kids_are ∙ same_each s.instance (subst (Agrees s.instance) same r.1.1) rule.premises (λ p j. j)
+
+        met : Misgiven rule first given goal → ⊥
+        met m = m.none made gives (subst (λ ns. MeetsAll made rule.concl ns given) (sym needs) meets)
+
+        given_case : (b : Bool) → list_all within_limits_of found ≡ b → IsStep (if b then Ok found else Err TooLarge)
+        given_case true e = record {
+          kids = λ kids. (
+            λ k. let same : found ≡ kids = ap (kids_or found) k in
+                (subst (RuleStep rule first given goal) same step_found, ap (list_all within_limits_of) (sym same) ∙ e),
+            λ s. ap (λ ks. Ok ks) (sym (only kids s.0)),
+          );
+          no_match = (λ k. absurd cc, λ h. absurd (h made gives));
+          bad_argument = (λ k. absurd cc, λ m. absurd (met m));
+          too_large = (λ k. absurd cc, λ l. let same = only l.kids l.step in let large = l.large in let f : list_all within_limits_of found ≡ false = rw same at large in absurd cc);
+          one = λ kids others s t. only kids s ∙ sym (only others t);
+        }
+        given_case false e = record {
+          kids = λ kids. (λ k. absurd cc, λ s. let same = only kids s.0 in let small = s.1 in let f : list_all within_limits_of found ≡ true = rw same at small in absurd cc);
+          no_match = (λ k. absurd cc, λ h. absurd (h made gives));
+          bad_argument = (λ k. absurd cc, λ m. absurd (met m));
+          too_large = (λ k. record { kids = found; step = step_found; large = e }, λ l. refl);
+          one = λ kids others s t. only kids s ∙ sym (only others t);
+        }
+
+      given_cases : (o : Option Inst) → given_all (needs_of rule.premises rule.concl) given i ≡ o → IsStep (outcome_given rule o)
+      given_cases None e = bad_case e
+      given_cases (Some new) e = given_case new e (list_all within_limits_of (map (seq (instance_of new)) rule.premises)) refl
+
+    matched_cases : (o : Option Inst) → match_of rule.concl first goal ≡ o → IsStep (outcome_matched rule given o)
+    matched_cases None e = none_case e
+    matched_cases (Some i) e = given_cases i e (given_all (needs_of rule.premises rule.concl) given i) refl
+
+    pub step_is : IsStep (outcome_of rule first given goal)
+    step_is = matched_cases (match_of rule.concl first goal) refl
+
+pub whole_law : (rules : List Rule) (place : ℕ) (rule : Rule) (first : Option ℕ) (given : List Given) (goal : Sequent) → slice_get rules place ≡ Some rule → IsRule rule →
+    IsTrue (is_allowed rules (just.Rule place first given)) → IsTrue (is_good goal) → IsStepBy rules place rule first given goal
+whole_law rules place rule first given goal is whole allowed good =
+    let here : IsTrue (is_allowed_at (Some rule) first given) = ap (λ r. is_allowed_at r first given) (sym is) ∙ allowed in
+    let s = step_is rule first given goal whole.needs (asked rule first given goal here good) in
+    let e : outcome_of rule first given goal ≡ step_by rules (just.Rule place first given) goal = ap (λ r. outcome_at r first given goal) (sym is) in
+    let t = subst (IsStep rule first given goal) e s in
+    record { kids = t.kids; no_match = t.no_match; bad_argument = t.bad_argument; too_large = t.too_large; one = t.one }

@@ -1,24 +1,41 @@
 -- What the steps of a list of rules are, in terms of instances.
-use Rattle.std.specs.Prelude.{◌≡◌, ◌↔◌, List, true, false, Ok, Err}
+use Rattle.std.specs.Prelude.{◌≡◌, ◌↔◌, ℕ, List, true, false, Option, Some, Ok, Err, slice_get, IsTrue}
 use Rattle.std.specs.List.{list_all}
-use Rattle.mp_logic.specs.declared.logic.Why.TheVariants.{NoMatch, TooLarge}
+use Rattle.mp_logic.specs.declared.logic.Why.TheVariants.{NoMatch, BadArgument, TooLarge}
 use Rattle.mp_term.specs.declared.sequent.Sequent.{Sequent}
 use Rattle.mp_term.specs.Limits.{within_limits_of}
-use Rattle.mp_refiner.specs.declared.rule.Rule.{Rule}
-use Rattle.mp_refiner.specs.declared.just.Just.{Just}
-use Rattle.mp_refiner.specs.Instances.{Values}
-use Rattle.mp_refiner.specs.RuleStep.{Makes, RuleStep}
+use Rattle.mp_schema.specs.Sequents.{Instance}
+use Rattle.mp_theory.specs.declared.rule.Rule.{Rule}
+use Rattle.mp_theory.specs.declared.just.Given.{Given}
+use Rattle.mp_theory.specs.declared.just.Just.TheVariants as just
+use Rattle.mp_theory.specs.Tables.{IsRule}
+use Rattle.mp_match.specs.Solutions.{GivesGoal}
+use Rattle.mp_refiner.specs.RuleStep.{MeetsAll, RuleStep}
+use Rattle.mp_theory.specs.Allowed.{is_allowed, is_good}
 use Rattle.mp_refiner.specs.Steps.{step_by}
 
--- the rule gives the goal kids of which some isn't within the limits
-pub record LargeStep (rule : Rule) (goal : Sequent) : Type 0 where
+-- some instance has the goal as the conclusion, and none of them meets the needs as they are given
+pub record Misgiven (rule : Rule) (first : Option ℕ) (given : List Given) (goal : Sequent) : Type 0 where
+  pub instance : Instance
+  pub match : GivesGoal rule.concl first goal instance
+  pub none : (v : Instance) → GivesGoal rule.concl first goal v → MeetsAll v rule.concl rule.needs given → ⊥
+
+-- the rule gives the goal subgoals of which some isn't within the limits
+pub record LargeStep (rule : Rule) (first : Option ℕ) (given : List Given) (goal : Sequent) : Type 0 where
   pub kids : List Sequent
-  pub step : RuleStep rule goal kids
+  pub step : RuleStep rule first given goal kids
   pub large : list_all within_limits_of kids ≡ false
 
--- the step by a justification that names the rule, in both directions, and that a rule gives a goal at most one list of kids
-pub record IsStepBy (rules : List Rule) (j : Just) (rule : Rule) (goal : Sequent) : Type 0 where
-  pub kids : (kids : List Sequent) → (step_by rules j goal ≡ Ok kids) ↔ (RuleStep rule goal kids × (list_all within_limits_of kids ≡ true))
-  pub no_match : (step_by rules j goal ≡ Err NoMatch) ↔ ((v : Values) → Makes v rule goal → ⊥)
-  pub too_large : (step_by rules j goal ≡ Err TooLarge) ↔ LargeStep rule goal
-  pub one : (kids others : List Sequent) → RuleStep rule goal kids → RuleStep rule goal others → kids ≡ others
+-- a step is what instances say, in both directions, and a rule gives a goal at most one list of subgoals
+pub record IsStepBy (rules : List Rule) (place : ℕ) (rule : Rule) (first : Option ℕ) (given : List Given) (goal : Sequent) : Type 0 where
+  pub kids : (kids : List Sequent) → (step_by rules (just.Rule place first given) goal ≡ Ok kids) ↔ (RuleStep rule first given goal kids × (list_all within_limits_of kids ≡ true))
+  pub no_match : (step_by rules (just.Rule place first given) goal ≡ Err NoMatch) ↔ ((v : Instance) → GivesGoal rule.concl first goal v → ⊥)
+  pub bad_argument : (step_by rules (just.Rule place first given) goal ≡ Err BadArgument) ↔ Misgiven rule first given goal
+  pub too_large : (step_by rules (just.Rule place first given) goal ≡ Err TooLarge) ↔ LargeStep rule first given goal
+  pub one : (kids others : List Sequent) → RuleStep rule first given goal kids → RuleStep rule first given goal others → kids ≡ others
+
+-- so is each step by a rule of a theory that is allowed, on a good goal
+abbrev pub StepLaw : Type 0
+StepLaw =
+    (rules : List Rule) (place : ℕ) (rule : Rule) (first : Option ℕ) (given : List Given) (goal : Sequent) → slice_get rules place ≡ Some rule → IsRule rule →
+    IsTrue (is_allowed rules (just.Rule place first given)) → IsTrue (is_good goal) → IsStepBy rules place rule first given goal

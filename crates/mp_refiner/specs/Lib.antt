@@ -1,12 +1,5 @@
-pub mod Building
-pub mod Faults
-pub mod Instances
-pub mod Justs
 pub mod Law
-pub mod Patterns
+pub mod Ready
 pub mod RuleStep
-pub mod SameTerm
-pub mod Solutions
 pub mod Steps
-pub mod Tables
 pub mod laws

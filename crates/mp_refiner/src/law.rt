@@ -1,18 +1,10 @@
-ghost use Rattle.std.specs.Prelude.{◌≡◌, Some, slice_get};
-ghost use Rattle.mp_refiner.specs.declared.rule.Rule.{Rule};
-ghost use Rattle.mp_refiner.specs.declared.just.Just.{Just};
-ghost use Rattle.mp_refiner.specs.Justs.{rule_place};
-ghost use Rattle.mp_refiner.specs.Law.{IsStepBy};
+ghost use Rattle.mp_refiner.specs.Law.{StepLaw};
 
-use crate::Theory;
-use mp_term::Sequent;
-
-/// A law, and no work: the step by a rule is what instances say. It gives kids exactly where they are the
-/// premises' instances by values that make the conclusion the goal and each is within the limits; it is
-/// refused with `NoMatch` exactly where no values make the conclusion the goal, and with `TooLarge` exactly
-/// where some kid isn't within the limits. A rule gives a goal at most one list of kids.
-pub fn step_law(theory: &Theory, goal: &Sequent)
-    ensures { (j : Just) (rule : Rule) → slice_get theory.now (rule_place j) ≡ Some rule → IsStepBy theory.now j rule goal.now }
-{
-    theory.faultless();
-}
+/// A law, and no work: a step by a rule of a theory gives subgoals exactly where they are the instances of the premises
+/// by some instance that has the goal as the conclusion and the needs as they are given, and each is within the limits.
+/// It is refused with `NoMatch` exactly where no instance has the goal as the conclusion; with `BadArgument` exactly
+/// where some has, and none with the needs as they are given; and with `TooLarge` exactly where some subgoal isn't
+/// within the limits. A rule gives a goal at most one list of subgoals for the same arguments.
+pub fn step_law()
+    ensures { StepLaw }
+{}

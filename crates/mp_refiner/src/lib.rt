@@ -1,23 +1,15 @@
-//! Rules of inference over closed terms, and the one place that makes their steps.
+//! The refiner: the one place where proof steps are made.
+//!
+//! `Refiner` is the logic of a theory: its goals are sequents, and its steps are by the theory's rules. A step matches
+//! the rule's conclusion with the goal, puts the given terms for what the premises need, and builds the premises.
+//! `specs/RuleStep.antt` says what a rule gives a goal, in terms of instances; `step_law` says that a step is just that.
 #![tactic(auto)]
 
-mod building;
-mod grown;
-mod just;
 mod law;
-mod matching;
-mod pattern;
 mod refiner;
-mod rule;
-mod theory;
+mod step;
 mod value;
 
-pub use just::Just;
 pub use law::step_law;
-pub use pattern::Pattern;
+pub use mp_theory::{Given, Just};
 pub use refiner::Refiner;
-pub use rule::{Rule, RuleFault, rule_fault};
-pub use theory::{Theory, TheoryErr};
-
-#[cfg(test)]
-mod tests;

@@ -1,25 +1,36 @@
-ghost use Rattle.std.specs.Prelude.{◌≡◌};
-ghost use Rattle.std.specs.Option.{option_copied};
-ghost use Rattle.mp_refiner.specs.Solutions.{find_value};
+ghost use Rattle.std.specs.Prelude.{◌≡◌, IfOk};
 
-use mp_logic::{List, Sym};
-use mp_term::Term;
+use mp_logic::{List, NoMemory};
+use mp_term::copy;
+use mp_theory::{Given, Just};
+use std::alloc::Global;
 
-/// The term that a variable stands for.
-#[derive(Drop)]
-pub(crate) struct Value {
-    pub(crate) name: Sym,
-    pub(crate) term: Term,
+/// An equal justification.
+pub(crate) fn copy_justification(alloc: Global, just: &Just) -> Result<Just, NoMemory>
+    ensures { IfOk result (λ copied. copied ≡ just.now) }
+{
+    match just {
+        Just::Rule { rule, first, given } => Ok(Just::Rule {
+            rule: *rule,
+            first: *first,
+            given: copy_given(alloc, given)?,
+        }),
+    }
 }
 
-/// The first value of this name.
-pub(crate) fn value_of(values: &List<Value>, name: Sym) -> Option<&Value>
-    ensures { option_copied result ≡ find_value values.now name }
+fn copy_given(alloc: Global, given: &List<Given>) -> Result<List<Given>, NoMemory>
+    ensures { IfOk result (λ copied. copied ≡ given.now) }
 {
-    for value in values.as_slice() {
-        if value.name.0 == name.0 {
-            return Some(value);
+    let mut copies = List::with_capacity(alloc, given.len())?;
+    for item in given.as_slice() {
+        let copied = Given {
+            name: item.name,
+            arity: item.arity,
+            body: copy(alloc, &item.body)?,
+        };
+        if let Err((_, refused)) = copies.push(copied) {
+            return Err(refused);
         }
     }
-    None
+    Ok(copies)
 }

@@ -2,13 +2,12 @@
 use Rattle.std.specs.Prelude.{ℕ, zero, suc, ◌+◌, ◌++◌, List, [], codes}
 use Rattle.std.specs.Fmt.{decimal}
 use Rattle.mp_logic.specs.declared.sym.Sym.{Sym}
-use Rattle.mp_logic.specs.declared.tree.Tree.{Tree}
 use Rattle.mp_logic.specs.Trees.{leaf_count_of, counted}
 use Rattle.mp_names.specs.Table.{text_of}
 use Rattle.mp_term.specs.declared.sequent.Sequent.{Sequent}
 use Rattle.mp_termtext.specs.Printing.{sequent_text}
-use Rattle.mp_refiner.specs.declared.just.Just.{Just}
-use Rattle.mp_refiner.specs.declared.rule.Rule.{Rule}
+use Rattle.mp_theory.specs.declared.just.Just.{Just}
+use Rattle.mp_theory.specs.declared.rule.Rule.{Rule}
 use Rattle.mp_strategy.specs.declared.outcome.Kind.{Kind}
 use Rattle.mp_strategy.specs.declared.outcome.Kind.TheVariants as kind
 use Rattle.mp_strategy.specs.declared.outcome.Outcome.{Outcome}

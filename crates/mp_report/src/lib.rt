@@ -1,7 +1,6 @@
 //! The printed text of outcomes and of drills.
 #![tactic(auto)]
 
-mod decimal;
 mod result;
 mod trace;
 

@@ -3,13 +3,12 @@ ghost use Rattle.mp_logic.specs.Trees.{leaf_count_of};
 ghost use Rattle.mp_report.specs.Results.{kind_text, leaves_text, outcome_text};
 ghost use Rattle.mp_report.specs.Results.{result_text as result_text_of};
 
-use crate::decimal::push_decimal;
 use mp_logic::{List, NoMemory, Sym, Text, Tree, leaf_count};
 use mp_names::Names;
-use mp_refiner::{Just, Theory};
 use mp_strategy::{Failure, Kind, Outcome};
 use mp_term::Sequent;
-use mp_termtext::{push_bytes, push_sequent};
+use mp_termtext::{push_bytes, push_decimal, push_sequent};
+use mp_theory::{Just, Theory};
 use mp_treetext::push_tree;
 use std::alloc::Global;
 

@@ -3,11 +3,10 @@ ghost use Rattle.std.specs.Fmt.{decimal};
 ghost use Rattle.mp_report.specs.Traces.{event_text, reply_text, lines_text};
 ghost use Rattle.mp_report.specs.Traces.{trace_text as trace_text_of};
 
-use crate::decimal::push_decimal;
 use mp_drill::{Event, Reply};
 use mp_logic::{List, NoMemory, Sym, Text};
 use mp_names::Names;
-use mp_termtext::push_bytes;
+use mp_termtext::{push_bytes, push_decimal};
 use std::alloc::Global;
 
 /// The text of a drill: the goal's name, and then a line for each event with its reply.

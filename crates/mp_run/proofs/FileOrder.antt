@@ -1,7 +1,7 @@
 -- How the files, read one after the other, are loaded.
-use Rattle.std.proofs.Common.{◌≡◌, ℕ, List, [], map, Option, Some, None, Result, Ok, Err, refl, sym, subst, ap}
+use Rattle.std.proofs.Common.{◌≡◌, ℕ, List, [], map, Option, Some, Result, Ok, Err, sym, subst}
 use Rattle.mp_logic.specs.declared.sym.Sym.{Sym}
-use Rattle.mp_refiner.specs.declared.rule.Rule.{Rule}
+use Rattle.mp_theory.specs.declared.rule.Rule.{Rule}
 use Rattle.mp_thintext.specs.declared.script.Entry.{Entry}
 use Rattle.mp_thintext.specs.declared.script.Script.{Script as Goals}
 use Rattle.mp_thintext.specs.declared.schedule.Section.{Section}
@@ -10,7 +10,7 @@ use Rattle.mp_thintext.specs.Values.{EachGood, EachInRange}
 use Rattle.mp_run.specs.declared.file.FileKind.TheVariants.{Theory, Script, Schedule}
 use Rattle.mp_run.specs.declared.loading.Loaded.{Loaded}
 use Rattle.mp_run.specs.declared.stop.Stop.{Stop}
-use Rattle.mp_run.specs.Answers.{Answer, Names}
+use Rattle.mp_run.specs.Answers.{Names}
 use Rattle.mp_run.specs.Goals.{GoalsAnswer}
 use Rattle.mp_run.specs.Headline.{Answers, ScriptAnswers, ScheduleAnswers}
 use Rattle.mp_run.specs.Commands.{Command}

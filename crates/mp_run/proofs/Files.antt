@@ -1,5 +1,5 @@
 -- How the readings of the files, one after the other, make the answer.
-use Rattle.std.proofs.Common.{◌≡◌, ℕ, ◌≤◌, ◌<◌, length, ◌⊎◌, inl, inr, List, Option, Some, None, Result, Ok, Err, refl, sym, subst}
+use Rattle.std.proofs.Common.{◌≡◌, ℕ, ◌≤◌, length, inl, inr, List, Option, Some, None, Result, Ok, Err, refl, sym, subst}
 use Rattle.mp_thintext.specs.declared.fail.ThinErr.{ThinErr}
 use Rattle.mp_run.specs.declared.file.FileKind.{FileKind}
 use Rattle.mp_run.specs.declared.stop.Stop.{Stop}

@@ -1,11 +1,8 @@
 -- The blocks of goals, from the parts that make them.
-use Rattle.std.proofs.Common.{◌≡◌, ℕ, ◌++◌, nat_eq, Bool, true, false, List, [], ◌∷◌, Some, None, IsTrue, if◌then◌else◌, refl, ap, sym, subst, ◌∙◌}
+use Rattle.std.proofs.Common.{◌≡◌, ℕ, ◌++◌, nat_eq, Bool, true, false, List, [], ◌∷◌, Some, None, IsTrue, if◌then◌else◌, refl, ap, subst, ◌∙◌}
 use Rattle.mp_term.specs.declared.sequent.Sequent.{Sequent}
-use Rattle.mp_refiner.specs.declared.rule.Rule.{Rule}
-use Rattle.mp_refiner.specs.Steps.{step_by}
-use Rattle.mp_strategy.specs.declared.work.Work.{Work}
+use Rattle.mp_theory.specs.declared.rule.Rule.{Rule}
 use Rattle.mp_strategy.specs.declared.outcome.Outcome.{Outcome}
-use Rattle.mp_strategy.specs.Evaluation.{eval}
 use Rattle.mp_report.specs.Results.{result_text}
 use Rattle.mp_thintext.specs.declared.script.Entry.{Entry}
 use Rattle.mp_run.specs.declared.block.Block.{Block}

@@ -1,15 +1,15 @@
 -- The blocks that were put so far, and what putting them all writes.
 use Rattle.std.proofs.Common.{◌≡◌, ℕ, ◌&&◌, Bool, true, false, List, [], ◌∷◌, ◌++◌, map, take, drop, Option, Some, None, refl, ap, sym, subst, ◌∙◌, append_assoc, append-nil}
-use Rattle.std.specs.Prelude.{⊤}
-use Rattle.std.specs.List.{list_all, flat_map}
+use Rattle.std.specs.List.{list_all}
 use Rattle.std.specs.Io.KnownBytes.{Appends}
 use Rattle.std.proofs.KnownBytes.{Appends-trans}
 use Rattle.std.proofs.lemmas.List.{take-append-drop}
 use Rattle.mp_ports.specs.Sinks.{TakesPrefix}
 use Rattle.mp_term.specs.declared.sequent.Sequent.{Sequent}
-use Rattle.mp_refiner.specs.declared.rule.Rule.{Rule}
-use Rattle.mp_drill.specs.declared.schedule.Reply.{Reply}
-use Rattle.mp_drill.proofs.Existence.{some_trace}
+use Rattle.mp_theory.specs.declared.rule.Rule.{Rule}
+use Rattle.mp_strategy.specs.declared.work.Work.{Work}
+use Rattle.mp_strategy.specs.declared.outcome.Outcome.{Outcome}
+use Rattle.mp_drill.specs.Laws.{SomeTrace, CanBeCompared}
 use Rattle.mp_report.specs.Traces.{trace_text}
 use Rattle.mp_thintext.specs.declared.script.Entry.{Entry}
 use Rattle.mp_thintext.specs.declared.schedule.Section.{Section}
@@ -21,20 +21,24 @@ use Rattle.mp_run.specs.Loads.{GoalsWrite}
 use Rattle.mp_run.specs.Runs.{joined}
 use Rattle.mp_run.proofs.SameWorks.{decide_work}
 
+-- each schedule of a goal's works has a trace
+abbrev pub EachTrace : Type 0
+EachTrace = CanBeCompared (Work Sequent) → (eval : Work Sequent → Outcome Sequent) → SomeTrace eval
+
 -- each goal has a block
-pub some_block : (names : Names) (rules : List Rule) (schedule : Option (List Section)) (entry : Entry) → (b : Block) × IsBlock names rules schedule entry b
-some_block names rules None entry = (record { text = goal_text names rules entry; closed = is_closed (goal_outcome rules entry) }, refl)
-some_block names rules (Some sections) entry =
-    let trace = some_trace (evaluate_in rules entry) decide_work (goal_work entry) (events_of sections entry.name) in (
+pub some_block : EachTrace → (names : Names) (rules : List Rule) (schedule : Option (List Section)) (entry : Entry) → (b : Block) × IsBlock names rules schedule entry b
+some_block some names rules None entry = (record { text = goal_text names rules entry; closed = is_closed (goal_outcome rules entry) }, refl)
+some_block some names rules (Some sections) entry =
+    let trace = some decide_work (evaluate_in rules entry) (goal_work entry) (events_of sections entry.name) in (
       record { text = trace_text names entry.name (events_of sections entry.name) trace.0 ++ goal_text names rules entry; closed = is_closed (goal_outcome rules entry) },
       (trace.0, trace.1, refl),
     )
 
-pub some_blocks : (names : Names) (rules : List Rule) (schedule : Option (List Section)) (entries : List Entry) → (bs : List Block) × AreBlocks (IsBlock names rules schedule) entries bs
-some_blocks names rules schedule [] = ([], tt)
-some_blocks names rules schedule (e ∷ es) =
-    let first = some_block names rules schedule e in
-    let others = some_blocks names rules schedule es in
+pub some_blocks : EachTrace → (names : Names) (rules : List Rule) (schedule : Option (List Section)) (entries : List Entry) → (bs : List Block) × AreBlocks (IsBlock names rules schedule) entries bs
+some_blocks some names rules schedule [] = ([], tt)
+some_blocks some names rules schedule (e ∷ es) =
+    let first = some_block some names rules schedule e in
+    let others = some_blocks some names rules schedule es in
     (first.0 ∷ others.0, (first.1, others.1))
 
 abbrev pub text_at : Block → List ℕ

@@ -1,21 +1,21 @@
 -- Two works on sequents are equal or not.
-use Rattle.std.proofs.Common.{◌≡◌, ℕ, ◌⊎◌, Bool, true, false, List, [], ◌∷◌, Decides, refl, ap, inl, inr}
+use Rattle.std.proofs.Common.{◌≡◌, ℕ, ◌⊎◌, Bool, true, false, List, [], ◌∷◌, refl, sym, ap, ◌∙◌, inl, inr, true≢false}
 use Rattle.std.proofs.lemmas.Bool.{cases_eq}
 use Rattle.mp_term.specs.declared.term.Term.{Term}
 use Rattle.mp_term.specs.declared.sequent.Sequent.{Sequent}
 use Rattle.mp_strategy.specs.declared.work.Work.{Work}
-use Rattle.mp_refiner.specs.SameTerm.{same_term}
-use Rattle.mp_refiner.specs.laws.SameTerms.{same_decides}
+use Rattle.mp_match.specs.Equality.{same_term}
+use Rattle.mp_match.proofs.Equal.{term-same, term-refl}
 
 abbrev Decision : {A : Type 0} → A → A → Type 0
 Decision a b = (a ≡ b) ⊎ ((a ≡ b) → ⊥)
 
-by_test : {P : Type 0} (test : Bool) → Decides test P → P ⊎ (P → ⊥)
-by_test true d = inl (d.0 refl)
-by_test false d = inr (λ p. let e = d.1 p in cc)
+by_test : (a b : Term) (test : Bool) → same_term a b ≡ test → Decision a b
+by_test a b true e = inl (term-same a b e)
+by_test a b false e = inr (λ (same : a ≡ b). true≢false (sym (term-refl a) ∙ ap (same_term a) same ∙ e))
 
 decide_term : (a b : Term) → Decision a b
-decide_term a b = by_test (same_term a b) (same_decides a b)
+decide_term a b = by_test a b (same_term a b) refl
 
 both_terms : (a b : Term) (ts us : List Term) → Decision a b → Decision ts us → Decision (a ∷ ts) (b ∷ us)
 both_terms a b ts us (inl e) (inl f) = inl (cc)

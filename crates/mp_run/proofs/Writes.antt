@@ -1,7 +1,6 @@
--- What the parts of a run write is what the run may write, and their causes are the run's.
-use Rattle.std.proofs.Common.{◌≡◌, ℕ, ◌⊎◌, inl, inr, Bool, true, false, List, [], ◌∷◌, ◌++◌, map, Result, Ok, Err, refl, sym, subst}
+-- What the parts of a run write is what the run may write.
+use Rattle.std.proofs.Common.{◌≡◌, ℕ, inl, inr, Option, Bool, true, false, List, [], ◌++◌, map, Result, Err, refl, sym, subst}
 use Rattle.std.specs.List.{list_all}
-use Rattle.mp_ports.specs.Causes.{Rose}
 use Rattle.mp_thintext.specs.declared.script.Entry.{Entry}
 use Rattle.mp_run.specs.declared.block.Block.{Block}
 use Rattle.mp_run.specs.declared.file.FileKind.{FileKind}
@@ -11,11 +10,14 @@ use Rattle.mp_run.specs.declared.file.Status.TheVariants as status
 use Rattle.mp_run.specs.declared.stop.Stop.{Stop}
 use Rattle.mp_run.specs.declared.stop.Stop.TheVariants as stop
 use Rattle.mp_run.specs.Answers.{Answer, Blocks, Refusal}
+use Rattle.mp_run.specs.Commands.{Command}
 use Rattle.mp_run.specs.Goals.{AreBlocks, answer_of}
+use Rattle.mp_run.specs.Headline.{Answers, RunAnswers}
 use Rattle.mp_run.specs.Lines.{fault_line}
+use Rattle.mp_run.specs.declared.loading.Loaded.{Loaded}
 use Rattle.mp_run.specs.Loads.{GoalsWrite}
-use Rattle.mp_run.specs.Runs.{joined, Ends, EndsSo, MayBegin, CommandWrites, RunCause}
-use Rattle.mp_run.specs.Stops.{StopsWith, StopWrites, TellWrites, StopCause, WriteCause}
+use Rattle.mp_run.specs.Runs.{joined, Ends, MayBegin, CommandWrites}
+use Rattle.mp_run.specs.Stops.{StopsWith, StopWrites, StopCause}
 
 ends_closed : (texts : List (List ℕ)) (b : Bool) (text : List ℕ) → b ≡ true → text ≡ joined texts → Ends (Blocks texts b) status.AllClosed text
 ends_closed texts true text e h = (refl, h)
@@ -66,27 +68,17 @@ module _ (IsRead : FileKind → Type 0) (IsAnswer : Answer → Type 0) (theory :
   stop_written (stop.Fault file) s text is (inr h) = nothing s text h.0 h.1
   stop_written stop.NoMemory s text is h = nothing s text h.0 h.1
 
-pub goals_cause : (Is : Entry → Block → Type 0) (entries : List Entry) (s : Status) (text : List ℕ) (r r' w w' : ℕ)
-    → GoalsWrite Is entries s text → r' ≡ r → WriteCause w w' s → RunCause s r r' w w'
-goals_cause Is entries status.AllClosed text r r' w w' h e k = (e, k)
-goals_cause Is entries status.NotAll text r r' w w' h e k = (e, k)
-goals_cause Is entries status.WriteFault text r r' w w' h e k = k
-goals_cause Is entries status.NoMemory text r r' w w' h e k = tt
-goals_cause Is entries status.Usage text r r' w w' h e k = absurd h
-goals_cause Is entries status.Refused text r r' w w' h e k = absurd h
-goals_cause Is entries status.ReadFault text r r' w w' h e k = absurd h
+module _ (files : List ℕ → Option (List ℕ)) (longs later : ℕ) (command : Command) where
+  -- what ends the run has its cause
+  pub stops_caused : (IsRead : FileKind → Type 0) (r r' : ℕ) (st : Stop) → StopsWith IsRead (Answers files command) st
+      → (let answer : Result Loaded Stop = Err st in StopCause r r' longs later answer) → StopsWith IsRead (RunAnswers files longs later command) st
+  stops_caused IsRead r r' (stop.Refused line) is cause = (is, cause.1)
+  stops_caused IsRead r r' (stop.Fault file) is cause = is
+  stops_caused IsRead r r' stop.NoMemory is cause = tt
 
-cause_at : (s s' : Status) (r r' w w' : ℕ) → s ≡ s' → (WriteCause w w' s' → RunCause s' r r' w w') → WriteCause w w' s → RunCause s r r' w w'
-cause_at s s' r r' w w' e h k =
-    let P : Status → Type 0 = λ x. RunCause x r r' w w' in
-    let Q : Status → Type 0 = λ x. WriteCause w w' x in
-    subst P (sym e) (h (subst Q e k))
-
-pub stop_cause : (V : Type 0) (st : Stop) (s : Status) (text : List ℕ) (r r' w w' : ℕ)
-    → (let answer : Result V Stop = Err st in StopCause r r' answer) → StopWrites st s text → WriteCause w w' s → RunCause s r r' w w'
-stop_cause V (stop.Refused line) s text r r' w w' e (inl h) k = cause_at s status.Refused r r' w w' h.0 (λ c. (e, c)) k
-stop_cause V (stop.Refused line) s text r r' w w' e (inr h) k = cause_at s status.WriteFault r r' w w' h.0 (λ c. c) k
-stop_cause V (stop.Fault file) s text r r' w w' e (inl (inl h)) k = cause_at s status.ReadFault r r' w w' h.0 (λ c. (e, c)) k
-stop_cause V (stop.Fault file) s text r r' w w' e (inl (inr h)) k = cause_at s status.WriteFault r r' w w' h.0 (λ c. c) k
-stop_cause V (stop.Fault file) s text r r' w w' e (inr h) k = cause_at s status.NoMemory r r' w w' h.0 (λ c. tt) k
-stop_cause V stop.NoMemory s text r r' w w' e h k = cause_at s status.NoMemory r r' w w' h.0 (λ c. tt) k
+  -- blocks need none
+  pub blocks_caused : (Is : Entry → Block → Type 0) (entries : List Entry)
+      → ((answer : Answer) → ((bs : List Block) × AreBlocks Is entries bs × (answer ≡ answer_of bs)) → Answers files command answer)
+      → (answer : Answer) → ((bs : List Block) × AreBlocks Is entries bs × (answer ≡ answer_of bs)) → RunAnswers files longs later command answer
+  blocks_caused Is entries is answer h =
+      subst (λ (a : Answer). RunAnswers files longs later command a) (sym h.2) (is (answer_of h.0) (h.0, h.1, refl))

@@ -1,6 +1,5 @@
 -- What the files that a command reads are answered with.
-use Rattle.std.specs.Prelude.{◌≡◌, ℕ, ◌<◌, ◌≤◌, ◌⊎◌, Bool, true, false, List, [], ◌∷◌, map, length, Option, Some, None, Result, Ok, Err, ⊤}
-use Rattle.std.specs.List.{list_all}
+use Rattle.std.specs.Prelude.{◌≡◌, ℕ, ◌<◌, ◌≤◌, ◌⊎◌, Bool, List, length, Option, Some, None, Result, Ok, Err, ⊤}
 use Rattle.mp_run.specs.declared.file.FileKind.{FileKind}
 use Rattle.mp_run.specs.Lines.{limit_of, long_line, refused_line}
 use Rattle.mp_thintext.specs.declared.fail.ThinErr.{ThinErr}

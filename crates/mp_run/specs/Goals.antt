@@ -1,10 +1,10 @@
 -- What is printed of the goals of a script.
-use Rattle.std.specs.Prelude.{◌≡◌, ℕ, ◌++◌, nat_eq, ◌&&◌, Bool, true, false, List, [], ◌∷◌, map, slice_get, Option, Some, None, if◌then◌else◌, ⊤}
+use Rattle.std.specs.Prelude.{◌≡◌, ℕ, ◌++◌, nat_eq, Bool, false, List, [], ◌∷◌, map, Option, Some, None, if◌then◌else◌, ⊤}
 use Rattle.std.specs.List.{list_all}
 use Rattle.mp_logic.specs.declared.sym.Sym.{Sym}
 use Rattle.mp_logic.specs.Trees.{leaf_count_of}
 use Rattle.mp_term.specs.declared.sequent.Sequent.{Sequent}
-use Rattle.mp_refiner.specs.declared.rule.Rule.{Rule}
+use Rattle.mp_theory.specs.declared.rule.Rule.{Rule}
 use Rattle.mp_refiner.specs.Steps.{step_by}
 use Rattle.mp_strategy.specs.declared.work.Work.{Work}
 use Rattle.mp_strategy.specs.declared.outcome.Outcome.{Outcome}

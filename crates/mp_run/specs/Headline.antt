@@ -2,12 +2,13 @@
 use Rattle.std.specs.Prelude.{ℕ, List, [], map, Some, None}
 use Rattle.std.specs.declared.option.Option.{Option}
 use Rattle.mp_run.specs.declared.file.FileKind.TheVariants.{Theory, Script, Schedule}
-use Rattle.mp_refiner.specs.declared.rule.Rule.{Rule}
+use Rattle.mp_theory.specs.declared.rule.Rule.{Rule}
 use Rattle.mp_thintext.specs.declared.script.Script.{Script as Goals}
 use Rattle.mp_thintext.specs.Texts.{ReadsTheory, ReadsScript, ReadsSchedule}
-use Rattle.mp_run.specs.Answers.{Answer, Names, FileThen}
+use Rattle.mp_run.specs.Answers.{Answer, Blocks, Refusal, Names, FileThen}
 use Rattle.mp_run.specs.Commands.{Command}
 use Rattle.mp_run.specs.Goals.{GoalsAnswer}
+use Rattle.mp_run.specs.Lines.{LongCause}
 
 module _ (files : List ℕ → Option (List ℕ)) where
   -- the goals of a script are answered; where there is a schedule, it is read first, and drilled
@@ -27,3 +28,9 @@ module _ (files : List ℕ → Option (List ℕ)) where
   abbrev pub Answers : Command → Answer → Type 0
   Answers command =
       FileThen Theory (files command.theory) (ReadsTheory []) (λ rules names. ScriptAnswers command.script command.schedule rules names)
+
+  -- what a run may answer: an answer to the files; and that a file is over the limit only where the shelf's count of
+  -- long files rose, also where the files' bytes aren't told
+  abbrev pub RunAnswers : (longs_before longs_now : ℕ) → Command → Answer → Type 0
+  RunAnswers before now command (Refusal line) = Answers command (Refusal line) × LongCause before now line
+  RunAnswers before now command (Blocks blocks closed) = Answers command (Blocks blocks closed)

@@ -2,6 +2,7 @@ pub mod Answers
 pub mod Commands
 pub mod Goals
 pub mod Headline
+pub mod Laws
 pub mod Lines
 pub mod Loads
 pub mod Runs

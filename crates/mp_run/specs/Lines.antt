@@ -1,5 +1,6 @@
 -- The lines that tell why a run ended before its goals.
-use Rattle.std.specs.Prelude.{ℕ, List, ◌++◌, codes}
+use Rattle.std.specs.Prelude.{◌≡◌, ℕ, List, ◌++◌, codes}
+use Rattle.mp_ports.specs.Causes.{Rose}
 use Rattle.mp_run.specs.declared.file.FileKind.{FileKind}
 use Rattle.mp_run.specs.declared.file.FileKind.TheVariants.{Theory, Script, Schedule}
 
@@ -15,6 +16,10 @@ name_of Schedule = codes "schedule"
 -- a file that is over the limit
 abbrev pub long_line : FileKind → List ℕ
 long_line file = codes "refused: " ++ name_of file ++ codes " is longer than 1048576 bytes\n"
+
+-- the line that a file is over the limit comes only where the shelf's count of long files rose
+abbrev pub LongCause : (longs_before longs_now : ℕ) → (line : List ℕ) → Type 0
+LongCause before now line = (file : FileKind) → line ≡ long_line file → Rose before now
 
 -- a file that isn't a text of its kind
 abbrev pub refused_line : FileKind → List ℕ

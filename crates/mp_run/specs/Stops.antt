@@ -10,7 +10,7 @@ use Rattle.mp_run.specs.declared.stop.Stop.{Stop}
 use Rattle.mp_run.specs.declared.stop.Stop.TheVariants as stop
 use Rattle.mp_run.specs.Answers.{Names, Reading, Says, Answer, Refusal}
 use Rattle.mp_run.specs.Commands.{Command}
-use Rattle.mp_run.specs.Lines.{limit_of, long_line, refused_line, fault_line}
+use Rattle.mp_run.specs.Lines.{limit_of, long_line, LongCause, refused_line, fault_line}
 use Rattle.mp_thintext.specs.declared.fail.ThinErr.{ThinErr}
 use Rattle.mp_thintext.specs.declared.fail.ThinErr.TheVariants as thin
 
@@ -43,10 +43,13 @@ GivesValue told kind reads names (Err (stop.Refused line)) = IfSome told (λ byt
 GivesValue told kind reads names (Err (stop.Fault file)) = file ≡ kind
 GivesValue told kind reads names (Err stop.NoMemory) = ⊤
 
--- a fault was counted where a file couldn't be read, and nowhere else
-abbrev pub StopCause : {V : Type 0} → (faults_before faults_now : ℕ) → Result V Stop → Type 0
-StopCause before now (Err (stop.Fault file)) = Rose before now
-StopCause before now answer = now ≡ before
+-- A fault was counted where a file couldn't be read, and nowhere else. A line that a file is over the limit comes only
+-- where the count of long files rose, and that count never falls.
+abbrev pub StopCause : {V : Type 0} → (faults_before faults_now longs_before longs_now : ℕ) → Result V Stop → Type 0
+StopCause faults now longs later (Ok value) = (now ≡ faults) × (longs ≤ later)
+StopCause faults now longs later (Err (stop.Refused line)) = (now ≡ faults) × LongCause longs later line
+StopCause faults now longs later (Err (stop.Fault file)) = Rose faults now
+StopCause faults now longs later (Err stop.NoMemory) = now ≡ faults
 
 -- what ends the run agrees with the answer to the files, and with the files that are read
 abbrev pub StopsWith : (FileKind → Type 0) → (Answer → Type 0) → Stop → Type 0

@@ -7,11 +7,12 @@ use mp_drill::{Event, drill};
 use mp_eval::evaluate;
 use mp_logic::{List as Items, NoMemory, Sym, Text, leaf_count};
 use mp_names::Names;
-use mp_refiner::{Refiner, Theory};
+use mp_refiner::Refiner;
 use mp_report::{result_text, trace_text};
 use mp_strategy::{Outcome, Problem, TacId, Work};
 use mp_term::Sequent;
 use mp_termtext::push_bytes;
+use mp_theory::Theory;
 use mp_thintext::{Entry, Section};
 use std::alloc::Global;
 

@@ -9,10 +9,12 @@ use crate::block::{Block, drill_block, seq_block};
 use crate::file::Status;
 use crate::loading::Loaded;
 use crate::waiting::Waiting;
+use mp_drill::some_trace;
 use mp_logic::{List as Items, NoMemory};
 use mp_names::Names;
 use mp_ports::Sink;
-use mp_refiner::Theory;
+use mp_term::Sequent;
+use mp_theory::Theory;
 use mp_thintext::{Entry, Section};
 use std::alloc::Global;
 
@@ -55,6 +57,8 @@ fn put_blocks<K: Sink>(
     ensures writes { (text : List ℕ) × Appends (K.taken out.old) (K.taken out.new) text × GoalsWrite (IsBlock names.now theory.now schedule.now) entries result text }
     ensures cause { WriteCause (K.faults out.old) (K.faults out.new) result }
 {
+    // Each goal has a block, also one whose block is never made.
+    some_trace::<Sequent>();
     let mut all_closed = true;
     let mut waiting = Waiting::new(entries);
     while let Some(entry) = waiting.next() {

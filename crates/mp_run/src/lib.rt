@@ -5,6 +5,7 @@ mod block;
 mod command;
 mod file;
 mod goals;
+mod laws;
 mod lines;
 mod loading;
 mod reading;
@@ -14,6 +15,7 @@ mod telling;
 mod waiting;
 
 pub use file::{FileKind, Status};
+pub use laws::one_answer;
 pub use run::run_here;
 
 #[cfg(test)]

@@ -1,5 +1,5 @@
-ghost use Rattle.std.specs.Prelude.{◌≡◌, ◌≤◌, length, map, IfOk};
-ghost use Rattle.mp_thintext.specs.Values.{EachGood};
+ghost use Rattle.std.specs.Prelude.{◌≡◌, ◌≤◌, length, map, IfOk, IsTrue};
+ghost use Rattle.mp_thintext.specs.Values.{are_plain, EachGood};
 ghost use Rattle.mp_run.specs.Headline.{Answers, ScriptAnswers, ScheduleAnswers};
 ghost use Rattle.mp_run.specs.Loads.{LoadsSo};
 ghost use Rattle.mp_run.specs.Runs.{ReadsFile};
@@ -11,7 +11,7 @@ use crate::stop::Stop;
 use mp_logic::{List, NoMemory, Sym, Text};
 use mp_names::Names;
 use mp_ports::Shelf;
-use mp_refiner::Theory;
+use mp_theory::Theory;
 use mp_thintext::{Script, Section};
 use std::alloc::Global;
 
@@ -50,7 +50,7 @@ fn with_schedule<H: Shelf>(
     requires room { length names ≤ 2097152 }
     requires good { EachGood theory script.entries }
     ensures answers { LoadsSo (ReadsFile (word_seen schedule.entry)) (ScheduleAnswers (H.bytes shelf.old) (word_seen schedule.entry) theory script names) result }
-    ensures cause { StopCause (H.faults shelf.old) (H.faults shelf.new) result }
+    ensures cause { StopCause (H.faults shelf.old) (H.faults shelf.new) (H.longs shelf.old) (H.longs shelf.new) result }
 {
     let Some(file) = schedule else {
         return Ok(Loaded {
@@ -85,8 +85,9 @@ fn with_script<H: Shelf>(
     schedule: Option<&Text>,
 ) -> Result<Loaded, Stop>
     requires room { length names ≤ 1048576 }
+    requires plain { IsTrue (are_plain theory) }
     ensures answers { LoadsSo (ReadsFile (word_seen schedule.entry)) (ScriptAnswers (H.bytes shelf.old) script.now (word_seen schedule.entry) theory names) result }
-    ensures cause { StopCause (H.faults shelf.old) (H.faults shelf.new) result }
+    ensures cause { StopCause (H.faults shelf.old) (H.faults shelf.new) (H.longs shelf.old) (H.longs shelf.new) result }
 {
     let mut names = names;
     match script_of(alloc, shelf, &mut names, &theory, script) {
@@ -98,7 +99,7 @@ fn with_script<H: Shelf>(
 /// Reads the files of the command, in the order of its words.
 pub fn load<H: Shelf>(alloc: Global, shelf: &mut H, command: Command<'_>) -> Result<Loaded, Stop>
     ensures answers { LoadsSo (ReadsFile (word_seen command.entry.schedule)) (Answers (H.bytes shelf.old) (command_seen command.entry)) result }
-    ensures cause { StopCause (H.faults shelf.old) (H.faults shelf.new) result }
+    ensures cause { StopCause (H.faults shelf.old) (H.faults shelf.new) (H.longs shelf.old) (H.longs shelf.new) result }
 {
     let mut names = Names::new(alloc);
     match theory_of(alloc, shelf, &mut names, command.theory) {

@@ -1,6 +1,6 @@
-ghost use Rattle.std.specs.Prelude.{◌≡◌, ◌≤◌, ◌+◌, ◌-◌, ◌<◌, ◌^◌, ℕ, List, length, IfOk};
+ghost use Rattle.std.specs.Prelude.{◌≡◌, ◌≤◌, ◌+◌, ◌-◌, ◌<◌, ◌^◌, ℕ, List, length, IfOk, IsTrue};
 ghost use Rattle.mp_thintext.specs.Texts.{ReadsTheory, ReadsScript, ReadsSchedule};
-ghost use Rattle.mp_thintext.specs.Values.{EachGood, EachInRange};
+ghost use Rattle.mp_thintext.specs.Values.{are_plain, EachGood, EachInRange};
 ghost use Rattle.mp_run.specs.Stops.{GivesBytes, GivesValue, StopCause, StopsRead};
 
 use crate::file::FileKind;
@@ -9,7 +9,7 @@ use crate::stop::Stop;
 use mp_logic::{List as Items, Sym, Text};
 use mp_names::Names;
 use mp_ports::{ReadErr, Shelf};
-use mp_refiner::Theory;
+use mp_theory::Theory;
 use mp_thintext::{Script, Section, ThinErr, read_schedule, read_script, read_theory};
 use std::alloc::Global;
 
@@ -25,7 +25,7 @@ fn read_file<H: Shelf>(
 ) -> Result<Text, Stop>
     ensures kept { (other : List ℕ) → H.bytes shelf.new other ≡ H.bytes shelf.old other }
     ensures gives { GivesBytes (H.bytes shelf.old name.now) kind result }
-    ensures cause { StopCause (H.faults shelf.old) (H.faults shelf.new) result }
+    ensures cause { StopCause (H.faults shelf.old) (H.faults shelf.new) (H.longs shelf.old) (H.longs shelf.new) result }
 {
     match shelf.read(alloc, name, LIMIT) {
         Ok(text) => Ok(text),
@@ -55,8 +55,9 @@ pub fn theory_of<H: Shelf>(
     requires room { length names.old + 1048576 < 2 ^ 32 - 1 }
     ensures kept { (other : List ℕ) → H.bytes shelf.new other ≡ H.bytes shelf.old other }
     ensures gives { GivesValue (H.bytes shelf.old name.now) FileKind.Theory (ReadsTheory names.old) names.new result }
+    ensures plain { IfOk result (λ theory. IsTrue (are_plain theory)) }
     ensures few { length names.new ≤ length names.old + 1048576 }
-    ensures cause { StopCause (H.faults shelf.old) (H.faults shelf.new) result }
+    ensures cause { StopCause (H.faults shelf.old) (H.faults shelf.new) (H.longs shelf.old) (H.longs shelf.new) result }
 {
     let source = read_file(alloc, shelf, name, FileKind::Theory)?;
     match read_theory(alloc, names, source.as_slice()) {
@@ -74,11 +75,12 @@ pub fn script_of<H: Shelf>(
     name: &Text,
 ) -> Result<Script, Stop>
     requires room { length names.old + 1048576 < 2 ^ 32 - 1 }
+    requires plain { IsTrue (are_plain theory.now) }
     ensures kept { (other : List ℕ) → H.bytes shelf.new other ≡ H.bytes shelf.old other }
     ensures gives { GivesValue (H.bytes shelf.old name.now) FileKind.Script (ReadsScript theory.now names.old) names.new result }
     ensures good { IfOk result (λ script. EachGood theory.now script.entries) }
     ensures few { length names.new ≤ length names.old + 1048576 }
-    ensures cause { StopCause (H.faults shelf.old) (H.faults shelf.new) result }
+    ensures cause { StopCause (H.faults shelf.old) (H.faults shelf.new) (H.longs shelf.old) (H.longs shelf.new) result }
 {
     let source = read_file(alloc, shelf, name, FileKind::Script)?;
     match read_script(alloc, names, theory, source.as_slice()) {
@@ -99,7 +101,7 @@ pub fn schedule_of<H: Shelf>(
     ensures kept { (other : List ℕ) → H.bytes shelf.new other ≡ H.bytes shelf.old other }
     ensures gives { GivesValue (H.bytes shelf.old name.now) FileKind.Schedule (ReadsSchedule goals.now names.old) names.new result }
     ensures range { IfOk result EachInRange }
-    ensures cause { StopCause (H.faults shelf.old) (H.faults shelf.new) result }
+    ensures cause { StopCause (H.faults shelf.old) (H.faults shelf.new) (H.longs shelf.old) (H.longs shelf.new) result }
 {
     let source = read_file(alloc, shelf, name, FileKind::Schedule)?;
     match read_schedule(alloc, names, goals, source.as_slice()) {

@@ -3,7 +3,7 @@ ghost use Rattle.std.specs.Io.KnownBytes.{Appends};
 ghost use Rattle.mp_ports.specs.Causes.{Quiet};
 ghost use Rattle.mp_run.specs.Commands.{Command as CommandWords};
 ghost use Rattle.mp_run.specs.Commands.{command_of as command_of_words};
-ghost use Rattle.mp_run.specs.Headline.{Answers};
+ghost use Rattle.mp_run.specs.Headline.{RunAnswers};
 ghost use Rattle.mp_run.specs.Runs.{CommandWrites, RunWrites, RunCause, Completes, ReadsFile};
 ghost use Rattle.mp_run.specs.Stops.{command_seen, word_seen};
 
@@ -27,7 +27,7 @@ fn run_command<H: Shelf, K: Sink>(
     shelf: &mut H,
     out: &mut K,
 ) -> Status
-    ensures writes { (text : List ℕ) × Appends (K.taken out.old) (K.taken out.new) text × CommandWrites (ReadsFile (word_seen command.entry.schedule)) (Answers (H.bytes shelf.old) (command_seen command.entry)) result text }
+    ensures writes { (text : List ℕ) × Appends (K.taken out.old) (K.taken out.new) text × CommandWrites (ReadsFile (word_seen command.entry.schedule)) (RunAnswers (H.bytes shelf.old) (H.longs shelf.old) (H.longs shelf.new) (command_seen command.entry)) result text }
     ensures cause { RunCause result (H.faults shelf.old) (H.faults shelf.new) (K.faults out.old) (K.faults out.new) }
 {
     match load(alloc, shelf, command) {
@@ -49,13 +49,13 @@ pub fn run_here<H: Shelf, K: Sink>(
     out: &mut K,
 ) -> Status
     // Under each status, what was written.
-    ensures writes { (text : List ℕ) × Appends (K.taken out.old) (K.taken out.new) text × RunWrites (Answers (H.bytes shelf.old)) (command_of_words words.now) result text }
+    ensures writes { (text : List ℕ) × Appends (K.taken out.old) (K.taken out.new) text × RunWrites (RunAnswers (H.bytes shelf.old) (H.longs shelf.old) (H.longs shelf.new)) (command_of_words words.now) result text }
     // Usage exactly where the words are no command.
     ensures usage { command_of_words words.now ≡ None → Quiet (K.faults out.old) (K.faults out.new) → result ≡ Status.Usage }
     // Where no fault is counted the whole answer was written, unless memory ran out.
     ensures answer { (command : CommandWords) → command_of_words words.now ≡ Some command
         → Quiet (H.faults shelf.old) (H.faults shelf.new) → Quiet (K.faults out.old) (K.faults out.new)
-        → Completes (Answers (H.bytes shelf.old) command) (K.taken out.old) (K.taken out.new) result }
+        → Completes (RunAnswers (H.bytes shelf.old) (H.longs shelf.old) (H.longs shelf.new) command) (K.taken out.old) (K.taken out.new) result }
     // A fault comes only where its count rose, and another status, memory aside, only where none did.
     ensures cause { RunCause result (H.faults shelf.old) (H.faults shelf.new) (K.faults out.old) (K.faults out.new) }
 {

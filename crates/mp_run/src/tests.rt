@@ -82,10 +82,21 @@ fn a_goal_is_closed_or_fails(rt: HostRuntime) -> Result<(), Fail> {
             Status::NotAll,
             "goal g: failed OutOfFuel at strategy 3 | >- true\n",
         ),
-        ("", Status::AllClosed, ""),
     ] {
         let files = [THEORY, script, ""];
         assert!(rt; runs(rt.alloc(), SEQ, files, (status, out))?, "{script}");
+    }
+    Ok(())
+}
+
+#[test]
+fn an_empty_script_has_no_output(rt: HostRuntime) -> Result<(), Fail> {
+    for words in [SEQ, DRILL] {
+        let due = (Status::AllClosed, "");
+        assert!(rt;
+            runs(rt.alloc(), words, [THEORY, "", ""], due)?,
+            "{words:?}"
+        );
     }
     Ok(())
 }
@@ -98,9 +109,14 @@ fn other_words_give_the_usage(rt: HostRuntime) -> Result<(), Fail> {
         &["seq", "t"],
         &["seq", "t", "s", "d"],
         &["drill", "t", "s"],
+        &["drill", "t", "s", "d", "x"],
         &["SEQ", "t", "s"],
         &["load", "8"],
+        &["load", "08"],
+        &["load", "401"],
         &["replay", "t", "s", "d"],
+        &["prove", "t", "s", "--workers=0"],
+        &["prove", "t", "s", "--lose=1", "--lose=1"],
     ] {
         let files = [THEORY, SCRIPT, ""];
         let due = (Status::Usage, USAGE);

@@ -1,2 +1,10 @@
+pub mod Faults
+pub mod Grammar
+pub mod Parts
 pub mod Printing
+pub mod Reading
+pub mod Round
+pub mod Statics
+pub mod Texts
+pub mod Values
 pub mod Words

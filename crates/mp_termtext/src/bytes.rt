@@ -1,5 +1,5 @@
 ghost use Rattle.std.specs.Prelude.{◌≡◌, ◌++◌, ◌+◌, ◌<◌, ◌≤◌, ◌^◌, OnOk, length};
-ghost use Rattle.std.specs.Fmt.{signed_decimal};
+ghost use Rattle.std.specs.Fmt.{decimal, signed_decimal};
 ghost use Rattle.mp_termtext.specs.Printing.{name_text, escaped, quoted};
 
 use itoa::Buffer;
@@ -16,7 +16,15 @@ pub fn push_bytes(out: &mut Vec<u8>, bytes: &[u8]) -> Result<(), NoMemory>
     }
 }
 
-/// Appends the number in decimal.
+/// Appends the number in decimal. Where there is no memory, some of it may have been appended.
+pub fn push_decimal(out: &mut Vec<u8>, number: u64) -> Result<(), NoMemory>
+    ensures { OnOk result (out.new.items ≡ out.old.items ++ decimal number) }
+{
+    let mut digits = Buffer::new();
+    push_bytes(out, digits.format(number).as_bytes())
+}
+
+/// Appends the number in decimal, with `-` before one below 0.
 pub(crate) fn push_number(out: &mut Vec<u8>, number: i64) -> Result<(), NoMemory>
     ensures { OnOk result (out.new.items ≡ out.old.items ++ signed_decimal number) }
 {
@@ -31,8 +39,7 @@ pub(crate) fn push_name(out: &mut Vec<u8>, level: u64) -> Result<(), NoMemory>
     ensures grown { OnOk result (length out.old.items + 1 ≤ length out.new.items) }
 {
     push_bytes(out, b"x")?;
-    let mut digits = Buffer::new();
-    push_bytes(out, digits.format(level + 1).as_bytes())
+    push_decimal(out, level + 1)
 }
 
 /// Appends the text with a `\` before each `"` and each `\`.

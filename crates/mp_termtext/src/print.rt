@@ -34,6 +34,21 @@ pub fn push_term(out: &mut Vec<u8>, names: &Names, t: &Term, scope: u32) -> Resu
     push_in(out, names, t, scope as u64)
 }
 
+/// Appends so many binders, which are the levels from `scope` on, and behind them the one text of the term, in
+/// whose scope they are. Where there is no memory, some of it may have been appended.
+pub fn push_bound_term(
+    out: &mut Vec<u8>,
+    names: &Names,
+    scope: u32,
+    binders: u32,
+    body: &Term,
+) -> Result<(), NoMemory>
+    ensures { OnOk result (out.new.items ≡ out.old.items ++ binders_text scope binders ++ term_text names.now body.now (scope + binders)) }
+{
+    push_binders(out, scope as u64, binders as u64)?;
+    push_in(out, names, body, scope as u64 + binders as u64)
+}
+
 /// Appends the one text of a sequent. Where there is no memory, some of it may have been appended.
 pub fn push_sequent(out: &mut Vec<u8>, names: &Names, s: &Sequent) -> Result<(), NoMemory>
     ensures { OnOk result (out.new.items ≡ out.old.items ++ sequent_text names.now s.now) }

@@ -1,8 +1,7 @@
 -- An entry that keeps the static rules can be evaluated.
-use Rattle.std.proofs.Common.{◌≡◌, ℕ, ℤ, pos, negsuc, nat_abs, ◌+◌, ◌<◌, ◌≤◌, List, [], ◌∷◌, length, map, Bool, true, false, ◌&&◌, nat_lt, nat_le, nat_eq, Option, Some, refl, sym, ap, subst, ◌∙◌, arith, rules, true≢false}
-use Rattle.std.specs.Prelude.{is_some, if◌then◌else◌}
+use Rattle.std.proofs.Common.{◌≡◌, ℕ, ℤ, pos, negsuc, nat_abs, ◌+◌, ◌≤◌, List, [], ◌∷◌, length, map, true, ◌&&◌, nat_lt, nat_le, refl, sym, ap, subst, ◌∙◌, arith, rules, true≢false}
 use Rattle.std.specs.List.{AllByRecursion, list_all}
-use Rattle.std.proofs.lemmas.Bool.{lt-ltb, ltb-true, and_from, and_parts}
+use Rattle.std.proofs.lemmas.Bool.{ltb-true, and_from, and_parts}
 use Rattle.std.proofs.lemmas.Bool.Decides.{nat_tests}
 use Rattle.mp_logic.specs.declared.sym.Sym.{Sym}
 use Rattle.mp_term.specs.declared.term.Term.{Term}
@@ -11,15 +10,16 @@ use Rattle.mp_term.specs.Terms.{in_scope_of, at_scope, all_true}
 use Rattle.mp_term.specs.Limits.{few_binders_of, within_limits_of}
 use Rattle.mp_term.proofs.Layers.{scoped_bound, in_scope-Op, scoped_bound-is, few_bound, few-Op, few_bound-is}
 use Rattle.mp_strategy.specs.Fits.{fits_of}
-use Rattle.mp_refiner.specs.declared.rule.Rule.{Rule}
-use Rattle.mp_refiner.specs.Tables.{place_of, place_from}
-use Rattle.mp_refiner.specs.Steps.{names_rule}
+use Rattle.mp_theory.specs.declared.rule.Rule.{Rule}
+use Rattle.mp_theory.specs.Allowed.{is_allowed}
+use Rattle.mp_theory.specs.Tables.{place_of}
 use Rattle.mp_thintext.specs.declared.raw.RawPattern.{RawPattern, Meta, Op, the_lemmas}
 use Rattle.mp_thintext.specs.declared.raw.RawScript.{RawScript}
 use Rattle.mp_thintext.specs.Chain.{chain_from}
-use Rattle.mp_thintext.specs.Values.{in_range, term_of, unbound, goal_of, steps_of, is_rule, just_of, or_zero, is_script, entry_of, IsGoodEntry}
+use Rattle.mp_thintext.specs.Values.{in_range, term_of, unbound, goal_of, steps_of, is_rule, just_of, or_zero, are_plain, is_script, entry_of, IsGoodEntry}
 use Rattle.mp_thintext.proofs.RawInduction.{each_raw}
 use Rattle.mp_thintext.proofs.ChainFits.{chain_fits}
+use Rattle.mp_thintext.proofs.PlainRules.{named_below, plain_at}
 
 term-Meta : (name : Sym) → term_of (Meta name) ≡ term.Op name [] []
 term-Meta name = search (rules, the_lemmas)
@@ -61,20 +61,11 @@ few_op name subs h = ap few_binders_of (term-Op name subs) ∙ few-Op name [] (m
 few : (raw : RawPattern) → HasFew raw
 few raw = each_raw HasFew few_meta few_op raw
 
-place_by_test : (found : Bool) (k : ℕ) (n : ℕ) (later : Option ℕ) → (is_some later ≡ true → or_zero later < k + 1 + n) → is_some (if found then Some k else later) ≡ true → or_zero (if found then Some k else later) < k + (1 + n)
-place_by_test true k n later q h = omega arith
-place_by_test false k n later q h = let e = q h in omega (arith, e)
-
-place_below : (k : ℕ) (rules : List Rule) (name : Sym) → is_some (place_from k rules name) ≡ true → or_zero (place_from k rules name) < k + length rules
-place_below k [] name h = absurd (true≢false (sym h))
-place_below k (r ∷ rs) name h =
-    let e = place_by_test (nat_eq r.name.0 name.0) k (length rs) (place_from (k + 1) rs name) (place_below (k + 1) rs name) h in omega (arith, e)
-
-each_named : (rules : List Rule) (names : List Sym) → list_all (is_rule rules) names ≡ true → list_all (names_rule rules) (map (just_of rules) names) ≡ true
-each_named rules [] h = refl
-each_named rules (n ∷ ns) h =
+each_allowed : (rules : List Rule) (names : List Sym) → are_plain rules ≡ true → list_all (is_rule rules) names ≡ true → list_all (is_allowed rules) (map (just_of rules) names) ≡ true
+each_allowed rules [] all h = refl
+each_allowed rules (n ∷ ns) all h =
     let both = and_parts (is_rule rules n) (list_all (is_rule rules) ns) h in
-    and_from (names_rule rules (just_of rules n)) (list_all (names_rule rules) (map (just_of rules) ns)) (lt-ltb (or_zero (place_of rules n)) (length rules) (omega (arith, place_below 0 rules n both.0))) (each_named rules ns both.1)
+    and_from (is_allowed rules (just_of rules n)) (list_all (is_allowed rules) (map (just_of rules) ns)) (plain_at rules (or_zero (place_of rules n)) (named_below rules n both.0) all) (each_allowed rules ns all both.1)
 
 length_map_just : (rules : List Rule) (names : List Sym) → length (map (just_of rules) names) ≡ length names
 length_map_just rules [] = refl
@@ -84,8 +75,8 @@ fuel_within : (z : ℤ) → in_range 0 400 z ≡ true → nat_abs z ≤ 400
 fuel_within (pos n) h = let both = and_parts (nat_le 0 n) (nat_le n 400) h in grind (arith, nat_tests, both)
 fuel_within (negsuc n) h = absurd (true≢false (sym h))
 
-pub good_entry : (rules : List Rule) (s : RawScript) → is_script rules s ≡ true → IsGoodEntry rules (entry_of rules s)
-good_entry rules s h =
+pub good_entry : (rules : List Rule) (s : RawScript) → are_plain rules ≡ true → is_script rules s ≡ true → IsGoodEntry rules (entry_of rules s)
+good_entry rules s all h =
     let limits = within_limits_of (goal_of s) in
     let short = nat_lt (length s.others) 64 in
     let named = list_all (is_rule rules) (steps_of s) in
@@ -96,7 +87,7 @@ good_entry rules s h =
     let count : n + 1 ≡ length (map (just_of rules) (steps_of s)) = omega (arith, length_map_just rules (steps_of s)) in
     record {
       fits = subst (λ k. fits_of k (chain_from 0 n) ≡ true) count (chain_fits n (ltb-true n 64 steps.0));
-      allowed = each_named rules (steps_of s) steps.1;
-      good = and_from (in_scope_of (term_of s.goal) 0) (few_binders_of (term_of s.goal) && limits) (closed s.goal 0) (and_from (few_binders_of (term_of s.goal)) limits (few s.goal) goal.0);
+      allowed = each_allowed rules (steps_of s) all steps.1;
+      good = and_from (in_scope_of (term_of s.goal) 0 && few_binders_of (term_of s.goal)) limits (and_from (in_scope_of (term_of s.goal) 0) (few_binders_of (term_of s.goal)) (closed s.goal 0) (few s.goal)) goal.0;
       fuel = fuel_within s.fuel fuel.0;
     }

@@ -1,8 +1,15 @@
 pub mod Steps
+pub mod Next
 pub mod Loops
 pub mod Combine
 pub mod Determinism
 pub mod ChainFits
 pub mod RawInduction
+pub mod WrittenLayers
+pub mod PatternLayers
+pub mod WrittenPatterns
+pub mod WrittenRules
+pub mod WrittenNeeds
+pub mod PlainRules
 pub mod GoodEntries
 pub mod Answering

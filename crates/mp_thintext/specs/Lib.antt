@@ -4,3 +4,4 @@ pub mod Laws
 pub mod Chain
 pub mod Values
 pub mod Texts
+pub mod RuleLimits

@@ -5,7 +5,7 @@ use Rattle.mp_names.specs.Table.{Extends}
 use Rattle.mp_lex.specs.Lex.{Reading, lex}
 use Rattle.mp_termtext.specs.declared.word.Word.{Word}
 use Rattle.mp_termtext.specs.Words.{pieces_of, words_of, names_after}
-use Rattle.mp_refiner.specs.declared.rule.Rule.{Rule}
+use Rattle.mp_theory.specs.declared.rule.Rule.{Rule}
 use Rattle.mp_thintext.specs.declared.fail.ThinErr.{ThinErr}
 use Rattle.mp_thintext.specs.declared.fail.ThinErr.TheVariants as thin
 use Rattle.mp_thintext.specs.declared.script.Script.{Script}

@@ -7,12 +7,16 @@ use Rattle.mp_term.specs.declared.term.Term as term
 use Rattle.mp_term.specs.declared.term.Bound.{Bound}
 use Rattle.mp_term.specs.declared.sequent.Sequent.{Sequent}
 use Rattle.mp_term.specs.Limits.{within_limits_of}
-use Rattle.mp_refiner.specs.declared.pattern.Pattern.{Pattern}
-use Rattle.mp_refiner.specs.declared.pattern.Pattern as pattern
-use Rattle.mp_refiner.specs.declared.rule.Rule.{Rule}
-use Rattle.mp_refiner.specs.declared.just.Just.{Just}
-use Rattle.mp_refiner.specs.declared.just.Just.TheVariants as just
-use Rattle.mp_refiner.specs.Tables.{has_name, place_of, is_faultless}
+use Rattle.mp_schema.specs.declared.pattern.Pattern.{Pattern}
+use Rattle.mp_schema.specs.declared.pattern.Pattern as pattern
+use Rattle.mp_schema.specs.declared.pattern.PBound.{PBound}
+use Rattle.mp_schema.specs.declared.schema.Schema.{Schema}
+use Rattle.mp_theory.specs.declared.rule.Rule.{Rule}
+use Rattle.mp_theory.specs.declared.just.Just.{Just}
+use Rattle.mp_theory.specs.declared.just.Just.TheVariants as just
+use Rattle.mp_theory.specs.Allowed.{is_allowed, is_allowed_at, is_good}
+use Rattle.mp_theory.specs.Tables as tables
+use Rattle.mp_theory.specs.Tables.{has_name, place_of, is_faultless}
 use Rattle.mp_thintext.specs.declared.raw.RawPattern.{RawPattern, RawPattern-F}
 use Rattle.mp_thintext.specs.declared.raw.RawPattern.TheOpen as layer
 use Rattle.mp_thintext.specs.declared.raw.RawPattern.TheFolds.{fold-RawPattern}
@@ -32,7 +36,6 @@ use Rattle.mp_thintext.specs.declared.fail.ThinErr.TheVariants as thin
 use Rattle.mp_thintext.specs.declared.script.Entry.{Entry}
 use Rattle.mp_thintext.specs.declared.script.Script.{Script}
 use Rattle.mp_strategy.specs.Fits.{fits_of}
-use Rattle.mp_refiner.specs.Steps.{is_good, names_rule}
 use Rattle.mp_thintext.specs.Chain.{chain_from}
 
 -- refused exactly where the static rules don't hold, unless memory ran out
@@ -46,13 +49,20 @@ abbrev pub in_range : ℕ → ℕ → ℤ → Bool
 in_range least most (pos n) = nat_le least n && nat_le n most
 in_range least most (negsuc n) = false
 
-abbrev pub pattern_step : RawPattern-F Pattern → Pattern
-pattern_step (layer.Meta name) = pattern.Meta name
-pattern_step (layer.Op name subs) = pattern.Op name subs
+abbrev pub unbound_pattern : Pattern → PBound
+unbound_pattern p = record { binders = 0; body = p }
 
--- the pattern that is written
+abbrev pub pattern_step : RawPattern-F Pattern → Pattern
+pattern_step (layer.Meta name) = pattern.Meta name [] []
+pattern_step (layer.Op name subs) = pattern.Op name [] (map unbound_pattern subs)
+
+-- the pattern that is written: nothing is bound, and a second-order variable has no contexts and no arguments
 abbrev pub pattern_of : RawPattern → Pattern
 pattern_of = fold-RawPattern Pattern pattern_step
+
+-- the schema that is written: it has no items
+abbrev pub schema_of : RawPattern → Schema
+schema_of raw = record { items = []; concl = pattern_of raw }
 
 abbrev pub unbound : Term → Bound
 unbound t = record { binders = 0; body = t }
@@ -66,16 +76,25 @@ term_step (layer.Op name subs) = term.Op name [] (map unbound subs)
 abbrev pub term_of : RawPattern → Term
 term_of = fold-RawPattern Term term_step
 
+-- the rule that is written
 abbrev pub rule_of : RawRule → Rule
-rule_of r = record { name = r.name; premises = map pattern_of r.premises; concl = pattern_of r.conclusion }
+rule_of r = tables.rule_of r.name (map schema_of r.premises) (schema_of r.conclusion)
 
 -- the rules that are written
 abbrev pub rules_of : List RawRule → List Rule
 rules_of = map rule_of
 
--- no rule before it has its name, and it is faultless
+-- each second-order variable of a premise occurs in the conclusion
+abbrev pub needs_nothing : Rule → Bool
+needs_nothing r = nat_eq (length r.needs) 0
+
+-- a theory of the rules before it takes it: none has its name, and it has no fault
+abbrev pub may_enter : List Rule → Rule → Bool
+may_enter before r = not (has_name before r.name) && is_faultless r
+
+-- no rule before it has its name, it has no fault, and it needs nothing
 abbrev pub may_follow : List Rule → Rule → Bool
-may_follow before r = not (has_name before r.name) && is_faultless r
+may_follow before r = may_enter before r && needs_nothing r
 
 -- each rule may follow those before it
 abbrev pub may_all_follow : List Rule → List Rule → Bool
@@ -108,9 +127,17 @@ abbrev pub or_zero : Option ℕ → ℕ
 or_zero None = 0
 or_zero (Some n) = n
 
--- the justification by the rule of this name
+-- the justification by the rule of this name: it says no place, and gives nothing
 abbrev pub just_of : List Rule → Sym → Just
-just_of rules name = just.Rule (or_zero (place_of rules name))
+just_of rules name = just.Rule (or_zero (place_of rules name)) None []
+
+-- the rule has no fault, and a step by it says no place and gives nothing
+abbrev pub is_plain : Rule → Bool
+is_plain r = is_allowed_at (Some r) None []
+
+-- each of the rules is plain
+abbrev pub are_plain : List Rule → Bool
+are_plain rules = list_all is_plain rules
 
 -- the entry that is written: each step has a justification of its own
 abbrev pub entry_of : List Rule → RawScript → Entry
@@ -135,7 +162,7 @@ script_of rules (Some s) = record { entries = entry_of rules s ∷ [] }
 -- an entry that can be evaluated in this theory
 pub record IsGoodEntry (rules : List Rule) (e : Entry) : Type 0 where
   pub fits : IsTrue (fits_of (length e.justs) e.tacs)
-  pub allowed : IsTrue (list_all (names_rule rules) e.justs)
+  pub allowed : IsTrue (list_all (is_allowed rules) e.justs)
   pub good : IsTrue (is_good e.goal)
   pub fuel : e.fuel ≤ 400
 

@@ -17,7 +17,7 @@ mod theory;
 mod value;
 
 pub use fail::ThinErr;
-pub use laws::{one_reading, one_text};
+pub use laws::{one_reading, one_text, rules_by_limits};
 pub use parts::ReadFail;
 pub use raw::{Action, Form, RawEvent, RawPattern, RawRule, RawScript, RawSection};
 pub use reading::{read_schedule, read_script, read_theory};

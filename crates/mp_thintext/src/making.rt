@@ -1,35 +1,49 @@
-ghost use Rattle.std.specs.Prelude.{◌≡◌, ◌<◌, ◌++◌, ◌∷◌, [], length, map, true, false, IfOk, MatchOption, OnOk};
+ghost use Rattle.std.specs.Prelude.{◌≡◌, ◌<◌, ◌++◌, ◌∷◌, [], length, map, true, false, IfOk, IsTrue, MatchOption, OnOk};
 ghost use Rattle.std.specs.List.{list_all};
 ghost use Rattle.mp_term.specs.Limits.{within_limits_of};
-ghost use Rattle.mp_thintext.specs.Values.{Decides, IsGoodEntry, rule_of, rules_of, may_follow, is_theory, is_script, entry_of, keeps_rules, script_of, EachGood, goal_of, just_of, is_rule, steps_of};
+ghost use Rattle.mp_thintext.specs.Values.{Decides, may_enter, are_plain, IsGoodEntry, rule_of, rules_of, may_follow, is_theory, is_script, entry_of, keeps_rules, script_of, EachGood, goal_of, just_of, is_rule, steps_of};
 
 use crate::chain::chain;
 use crate::fail::ThinErr;
 use crate::raw::{RawRule, RawScript};
 use crate::script::{Entry, Script};
-use crate::value::{number_in, pattern, patterns, term};
+use crate::value::{number_in, schema, schemata, term};
 use mp_logic::{List, Sym};
-use mp_refiner::{Just, Theory, TheoryErr};
 use mp_term::{Sequent, within_limits};
+use mp_theory::{Just, Theory, TheoryErr};
 use std::alloc::Global;
 
-/// Adds a rule that is written.
-fn add_rule(alloc: Global, theory: &mut Theory, raw: &RawRule) -> Result<(), ThinErr>
+/// Adds a rule that is written, if its name is free and it has no fault.
+fn enter(alloc: Global, theory: &mut Theory, raw: &RawRule) -> Result<(), ThinErr>
     requires room { length theory.old < 4294967295 }
-    ensures rules { Decides (may_follow theory.old (rule_of raw.now)) result }
+    ensures rules { Decides (may_enter theory.old (rule_of raw.now)) result }
     ensures added { OnOk result (theory.new ≡ theory.old ++ rule_of raw.now ∷ []) }
 {
-    let Ok(premises) = patterns(alloc, &raw.premises) else {
+    let Ok(premises) = schemata(alloc, &raw.premises) else {
         return Err(ThinErr::NoMemory);
     };
-    let Ok(concl) = pattern(alloc, &raw.conclusion) else {
+    let Ok(concl) = schema(alloc, &raw.conclusion) else {
         return Err(ThinErr::NoMemory);
     };
     match theory.add_rule(alloc, raw.name, premises, concl) {
         Ok(()) => Ok(()),
         Err(TheoryErr::NoMemory) => Err(ThinErr::NoMemory),
         Err(TheoryErr::Taken) => Err(ThinErr::Refused),
-        Err(TheoryErr::Faulty(_)) => Err(ThinErr::Refused),
+        Err(TheoryErr::Schema(_)) => Err(ThinErr::Refused),
+    }
+}
+
+/// Adds a rule that is written, if it keeps the static rules. After a refusal it may have been added.
+fn add_rule(alloc: Global, theory: &mut Theory, raw: &RawRule) -> Result<(), ThinErr>
+    requires room { length theory.old < 4294967295 }
+    ensures rules { Decides (may_follow theory.old (rule_of raw.now)) result }
+    ensures added { OnOk result (theory.new ≡ theory.old ++ rule_of raw.now ∷ []) }
+{
+    let place = theory.len();
+    enter(alloc, theory, raw)?;
+    match theory.rule(place) {
+        Some(rule) if rule.needs.len() == 0 => Ok(()),
+        _ => Err(ThinErr::Refused),
     }
 }
 
@@ -38,6 +52,7 @@ pub(crate) fn make_theory(alloc: Global, raws: &List<RawRule>) -> Result<Theory,
     requires few { length raws.now < 4294967295 }
     ensures rules { Decides (is_theory raws.now) result }
     ensures value { IfOk result (λ theory. theory ≡ rules_of raws.now) }
+    ensures plain { IfOk result (λ theory. IsTrue (are_plain theory)) }
 {
     let mut theory = Theory::new(alloc);
     for raw in raws.as_slice() {
@@ -50,21 +65,30 @@ pub(crate) fn make_theory(alloc: Global, raws: &List<RawRule>) -> Result<Theory,
 }
 
 /// The justification by the rule of this name, if there is one.
-fn just(theory: &Theory, name: Sym) -> Option<Just>
+fn just(alloc: Global, theory: &Theory, name: Sym) -> Option<Just>
     ensures { MatchOption result (is_rule theory.now name ≡ false) (λ j. (is_rule theory.now name ≡ true) × (j ≡ just_of theory.now name)) }
 {
     match theory.rule_named(name) {
-        Some(rule) => Some(Just::Rule { rule }),
+        Some(rule) => Some(Just::Rule {
+            rule,
+            first: None,
+            given: List::new(alloc),
+        }),
         None => None,
     }
 }
 
 /// Adds the justification by the rule of this name.
-fn push_just(theory: &Theory, name: Sym, justs: &mut List<Just>) -> Result<(), ThinErr>
+fn push_just(
+    alloc: Global,
+    theory: &Theory,
+    name: Sym,
+    justs: &mut List<Just>,
+) -> Result<(), ThinErr>
     ensures rules { Decides (is_rule theory.now name) result }
     ensures added { OnOk result (justs.new ≡ justs.old ++ just_of theory.now name ∷ []) }
 {
-    let Some(one) = just(theory, name) else {
+    let Some(one) = just(alloc, theory, name) else {
         return Err(ThinErr::Refused);
     };
     match justs.push(one) {
@@ -79,12 +103,12 @@ fn make_justs(alloc: Global, theory: &Theory, raw: &RawScript) -> Result<List<Ju
     ensures value { IfOk result (λ justs. justs ≡ map (just_of theory.now) (steps_of raw.now)) }
 {
     let mut justs = List::new(alloc);
-    match push_just(theory, raw.first, &mut justs) {
+    match push_just(alloc, theory, raw.first, &mut justs) {
         Ok(()) => {}
         Err(fail) => return Err(fail),
     }
     for name in raw.others.as_slice() {
-        match push_just(theory, *name, &mut justs) {
+        match push_just(alloc, theory, *name, &mut justs) {
             Ok(()) => {}
             Err(fail) => return Err(fail),
         }
@@ -113,6 +137,7 @@ fn make_goal(alloc: Global, raw: &RawScript) -> Result<Sequent, ThinErr>
 
 /// The entry that is written, if it keeps the static rules.
 pub(crate) fn make_entry(alloc: Global, theory: &Theory, raw: &RawScript) -> Result<Entry, ThinErr>
+    requires plain { IsTrue (are_plain theory.now) }
     ensures rules { Decides (is_script theory.now raw.now) result }
     ensures value { IfOk result (λ entry. entry ≡ entry_of theory.now raw.now) }
     ensures good { IfOk result (IsGoodEntry theory.now) }
@@ -144,6 +169,7 @@ pub(crate) fn make_script(
     theory: &Theory,
     raw: &Option<RawScript>,
 ) -> Result<Script, ThinErr>
+    requires plain { IsTrue (are_plain theory.now) }
     ensures rules { Decides (keeps_rules theory.now raw.now) result }
     ensures value { IfOk result (λ script. script ≡ script_of theory.now raw.now) }
     ensures good { IfOk result (λ script. EachGood theory.now script.entries) }

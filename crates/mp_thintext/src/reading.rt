@@ -1,5 +1,5 @@
-ghost use Rattle.std.specs.Prelude.{◌<◌, ◌≤◌, ◌+◌, ◌-◌, ◌^◌, length, IfOk};
-ghost use Rattle.mp_thintext.specs.Values.{EachGood, EachInRange};
+ghost use Rattle.std.specs.Prelude.{◌<◌, ◌≤◌, ◌+◌, ◌-◌, ◌^◌, length, IfOk, IsTrue};
+ghost use Rattle.mp_thintext.specs.Values.{are_plain, EachGood, EachInRange};
 ghost use Rattle.mp_thintext.specs.Texts.{ReadsTheory, ReadsScript, ReadsSchedule};
 
 use crate::fail::ThinErr;
@@ -12,16 +12,18 @@ use crate::text::text_words;
 use crate::theory::parse_theory;
 use mp_logic::{List, Sym};
 use mp_names::Names;
-use mp_refiner::Theory;
+use mp_theory::Theory;
 use std::alloc::Global;
 
 /// Reads a theory. Refused is exactly what isn't thin: a text with a comment, a lexical fault, words that aren't
-/// in the grammar, or a rule whose name stands before it or that has a fault. Earlier names keep their
-/// numbers, and at most as many are added as the text has bytes.
+/// in the grammar, or a rule whose name stands before it, that has a fault, or that has a variable in a premise
+/// alone. A step by a rule that is read says no place and gives nothing. Earlier names keep their numbers, and at
+/// most as many are added as the text has bytes.
 pub fn read_theory(alloc: Global, names: &mut Names, source: &[u8]) -> Result<Theory, ThinErr>
     requires room { length names.old + length source.now < 2 ^ 32 - 1 }
     ensures reads { ReadsTheory names.old source.now result names.new }
     ensures few { length names.new ≤ length names.old + length source.now }
+    ensures plain { IfOk result (λ theory. IsTrue (are_plain theory)) }
 {
     let words = text_words(alloc, names, source)?;
     match parse_theory(alloc, words.as_slice()) {
@@ -31,9 +33,9 @@ pub fn read_theory(alloc: Global, names: &mut Names, source: &[u8]) -> Result<Th
     }
 }
 
-/// Reads a script in a theory. Refused is exactly what isn't thin: a text with a comment, a lexical fault, words
-/// that aren't in the grammar, a fuel over 400, a goal over the limits, more than 64 steps, or a rule that isn't
-/// in the theory. Earlier names keep their
+/// Reads a script in a theory whose steps say no place and give nothing, as one that is read has. Refused is
+/// exactly what isn't thin: a text with a comment, a lexical fault, words that aren't in the grammar, a fuel over
+/// 400, a goal over the limits, more than 64 steps, or a rule that isn't in the theory. Earlier names keep their
 /// numbers, and at most as many are added as the text has bytes.
 pub fn read_script(
     alloc: Global,
@@ -42,6 +44,7 @@ pub fn read_script(
     source: &[u8],
 ) -> Result<Script, ThinErr>
     requires room { length names.old + length source.now < 2 ^ 32 - 1 }
+    requires plain { IsTrue (are_plain theory.now) }
     ensures reads { ReadsScript theory.now names.old source.now result names.new }
     ensures few { length names.new ≤ length names.old + length source.now }
     ensures good { IfOk result (λ script. EachGood theory.now script.entries) }

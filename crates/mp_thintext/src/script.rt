@@ -6,10 +6,10 @@ use crate::parts::{ReadFail, mark, number, read_named, stuck, word};
 use crate::pattern::read_schema;
 use crate::raw::{Form, RawPattern, RawScript};
 use mp_logic::{List, Sym};
-use mp_refiner::Just;
 use mp_strategy::Tac;
 use mp_term::Sequent;
 use mp_termtext::{Keyword, Mark, Word};
+use mp_theory::Just;
 use std::alloc::Global;
 
 /// A goal with its fuel, its justifications and its table of strategies.

@@ -1,16 +1,21 @@
+ghost use Rattle.std.specs.Prelude.{IfOk, IsTrue};
+ghost use Rattle.mp_thintext.specs.Values.{are_plain};
+
 use crate::{Script, Section, ThinErr, read_schedule, read_script, read_theory};
 use mp_drill::Event;
 use mp_logic::{JustId, List, Sym};
 use mp_names::Names;
-use mp_refiner::{Just, Theory};
 use mp_strategy::{Tac, TacId};
 use mp_term::{depth, size};
+use mp_theory::{Just, Theory};
 use std::alloc::Global;
 use std::test::Fail;
 
 const FOL1: &[u8] = b"rule true_i : ==> >- true\nrule and_i : >- 'A, >- 'B ==> >- and{'A; 'B}\n";
 
-fn theory(alloc: Global, names: &mut Names, source: &[u8]) -> Result<Theory, ThinErr> {
+fn theory(alloc: Global, names: &mut Names, source: &[u8]) -> Result<Theory, ThinErr>
+    ensures { IfOk result (λ theory. IsTrue (are_plain theory)) }
+{
     if names.len() > 1000 || source.len() > 10000 {
         return Err(ThinErr::NoMemory);
     }
@@ -70,8 +75,19 @@ fn then_groups_to_the_left(rt: HostRuntime) -> Result<(), Fail> {
     assert_eq!(rt; entry.goal.hyps.len(), 0);
     assert_eq!(rt; size(&entry.goal.concl), 3);
     assert_eq!(rt; depth(&entry.goal.concl), 2);
-    for (place, rule) in [(0u64, 1u32), (1, 0), (2, 1)] {
-        assert_eq!(rt; entry.justs.get(place).copied(), Some(Just::Rule { rule }));
+    for (place, want) in [(0u64, 1u32), (1, 0), (2, 1)] {
+        let Some(
+            Just::Rule {
+                rule,
+                first: None,
+                given,
+            },
+        ) = entry.justs.get(place)
+        else {
+            return Err(Fail::from("no justification by a rule alone"));
+        };
+        assert_eq!(rt; *rule, want);
+        assert_eq!(rt; given.len(), 0);
     }
     assert_eq!(rt; entry.tacs.len(), 5);
     for (place, first, second) in [(0u64, 1u32, 4u32), (1, 2, 3)] {

@@ -1,9 +1,9 @@
 ghost use Rattle.std.specs.Prelude.{◌≡◌, ◌<◌, IfOk, MatchOption, true, false, nat_abs, map};
-ghost use Rattle.mp_thintext.specs.Values.{pattern_of, term_of, in_range};
+ghost use Rattle.mp_thintext.specs.Values.{pattern_of, schema_of, term_of, in_range};
 
 use crate::raw::RawPattern;
 use mp_logic::{List, NoMemory};
-use mp_refiner::Pattern;
+use mp_schema::{PBound, Pattern, Schema};
 use mp_term::{Bound, Term};
 use std::alloc::Global;
 
@@ -23,30 +23,46 @@ pub(crate) fn pattern(alloc: Global, raw: &RawPattern) -> Result<Pattern, NoMemo
     ensures { IfOk result (λ p. p ≡ pattern_of raw.now) }
 {
     match raw {
-        RawPattern::Meta(name) => Ok(Pattern::Meta(*name)),
+        RawPattern::Meta(name) => Ok(Pattern::Meta {
+            name: *name,
+            ctxs: List::new(alloc),
+            args: List::new(alloc),
+        }),
         RawPattern::Op { name, subs } => {
-            let mut parts = List::with_capacity(alloc, subs.len())?;
+            let mut bodies = List::with_capacity(alloc, subs.len())?;
             for sub in subs.as_slice() {
-                let part = pattern(alloc, sub)?;
-                if let Err((_, refused)) = parts.push(part) {
+                let body = pattern(alloc, sub)?;
+                if let Err((_, refused)) = bodies.push(PBound { binders: 0, body }) {
                     return Err(refused);
                 }
             }
             Ok(Pattern::Op {
                 op: *name,
-                subs: parts,
+                params: List::new(alloc),
+                subs: bodies,
             })
         }
     }
 }
 
-/// The patterns that are written.
-pub(crate) fn patterns(alloc: Global, raws: &List<RawPattern>) -> Result<List<Pattern>, NoMemory>
-    ensures { IfOk result (λ ps. ps ≡ map pattern_of raws.now) }
+/// The schema that is written.
+pub(crate) fn schema(alloc: Global, raw: &RawPattern) -> Result<Schema, NoMemory>
+    ensures { IfOk result (λ s. s ≡ schema_of raw.now) }
+{
+    let concl = pattern(alloc, raw)?;
+    Ok(Schema {
+        items: List::new(alloc),
+        concl,
+    })
+}
+
+/// The schemata that are written.
+pub(crate) fn schemata(alloc: Global, raws: &List<RawPattern>) -> Result<List<Schema>, NoMemory>
+    ensures { IfOk result (λ ss. ss ≡ map schema_of raws.now) }
 {
     let mut made = List::with_capacity(alloc, raws.len())?;
     for raw in raws.as_slice() {
-        let one = pattern(alloc, raw)?;
+        let one = schema(alloc, raw)?;
         if let Err((_, refused)) = made.push(one) {
             return Err(refused);
         }

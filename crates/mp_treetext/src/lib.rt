@@ -2,5 +2,9 @@
 #![tactic(auto)]
 
 mod print;
+mod step;
 
 pub use print::{print_tree, push_tree};
+
+#[cfg(test)]
+mod tests;

@@ -1,11 +1,12 @@
-ghost use Rattle.std.specs.Prelude.{◌≡◌, ◌++◌, [], codes, slice_get, OnOk, IfOk};
-ghost use Rattle.mp_treetext.specs.Trees.{tree_text, goal_text, step_text};
+ghost use Rattle.std.specs.Prelude.{◌≡◌, ◌++◌, [], OnOk, IfOk};
+ghost use Rattle.mp_treetext.specs.Trees.{tree_text, goal_text};
 
-use mp_logic::{JustId, List, NoMemory, Text, Tree};
+use crate::step::push_step;
+use mp_logic::{List, NoMemory, Text, Tree};
 use mp_names::Names;
-use mp_refiner::{Just, Theory};
 use mp_term::Sequent;
 use mp_termtext::{push_bytes, push_sequent};
+use mp_theory::{Just, Theory};
 use std::alloc::Global;
 
 /// The one text of a proof tree: a line for each node in preorder, indented by two spaces for each step
@@ -50,14 +51,13 @@ fn push_node(
     ensures text { OnOk result (out.new.items ≡ out.old.items ++ tree_text names.now theory.now justs.now tree.now indent.old.items) }
     ensures indent { OnOk result (indent.new.items ≡ indent.old.items) }
 {
+    push_bytes(out, indent.as_slice())?;
     match tree {
         Tree::Leaf(goal) => {
-            push_bytes(out, indent.as_slice())?;
             push_bytes(out, b"open")?;
             push_goal(out, names, goal)
         }
         Tree::Step { goal, just, kids } => {
-            push_bytes(out, indent.as_slice())?;
             push_step(out, names, theory, justs, *just)?;
             push_goal(out, names, goal)?;
             let depth = indent.len();
@@ -67,28 +67,6 @@ fn push_node(
             }
             indent.truncate(depth);
             Ok(())
-        }
-    }
-}
-
-/// Appends the text of a step by the justification of this number.
-fn push_step(
-    out: &mut Vec<u8>,
-    names: &Names,
-    theory: &Theory,
-    justs: &List<Just>,
-    just: JustId,
-) -> Result<(), NoMemory>
-    ensures { OnOk result (out.new.items ≡ out.old.items ++ step_text names.now theory.now (slice_get justs.now just.0)) }
-{
-    match justs.get(just.0 as u64) {
-        None => Ok(()),
-        Some(Just::Rule { rule }) => {
-            push_bytes(out, b"rule ")?;
-            match theory.rule(*rule) {
-                None => Ok(()),
-                Some(rule) => push_bytes(out, names.text(rule.name)),
-            }
         }
     }
 }

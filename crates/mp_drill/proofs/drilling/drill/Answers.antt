@@ -1,4 +1,4 @@
-use Rattle.std.proofs.Common.{◌≡◌, ◌<◌, ◌≤◌, ℕ, ◌+◌, length, get_or, IsTrue, sym, subst, ap, ◌∙◌, arith}
+use Rattle.std.proofs.Common.{◌≡◌, ◌<◌, ◌≤◌, ◌+◌, length, get_or, IsTrue, sym, subst, ap, ◌∙◌, arith}
 use Rattle.mp_strategy.specs.Evaluation.{eval}
 use Rattle.mp_strategy.specs.Strategies.{Evals}
 use Rattle.mp_strategy.proofs.Allowed.{evals_in}
@@ -10,7 +10,7 @@ use Rattle.mp_core.specs.Machine.{opening}
 use Rattle.mp_drill.specs.declared.schedule.Event.TheVariants as event
 use Rattle.mp_drill.specs.Ranges.{are_in_range}
 use Rattle.mp_drill.specs.Rounds.{Rounds}
-use Rattle.mp_drill.specs.Workers.{world, first_world, World}
+use Rattle.mp_drill.specs.Workers.{world, first_world}
 use Rattle.mp_drill.specs.Trace.{Happens, IsTrace}
 use Rattle.mp_drill.proofs.Outcomes.{Good, first_good, happens_good, trace_gives_eval, replies_length}
 use Rattle.mp_drill.proofs.Scheduling.{Onward, range_at, ready_first, no_event, next_event, whole_trace}

@@ -1,10 +1,9 @@
-use Rattle.std.proofs.Common.{◌≡◌, ◌<◌, Some, sym, subst, ap, ◌∙◌}
+use Rattle.std.proofs.Common.{◌≡◌, Some, sym, ap, ◌∙◌}
 use Rattle.mp_strategy.specs.Evaluation.{eval}
 use Rattle.mp_core.specs.declared.core_calls.Claimed.TheVariants as claimed
 use Rattle.mp_core.specs.declared.state.CoreState.{CoreState}
-use Rattle.mp_core.specs.declared.state.Parcel.{Parcel}
 use Rattle.mp_core.specs.Cores.{moved}
-use Rattle.mp_core.specs.Machine.{next_for, answer_of}
+use Rattle.mp_core.specs.Machine.{next_for}
 use Rattle.mp_drill.specs.Rounds.{Rounds, evaluated}
 use Rattle.mp_drill.proofs.Rounding.{if_ok_by, onward, round_same, at_finish, at_spent}
 use Rattle.mp_drill.proofs.rounds.finish.Goals as goal

@@ -1,4 +1,4 @@
-use Rattle.std.proofs.Common.{◌≡◌, subst, replicate, arith, List}
+use Rattle.std.proofs.Common.{◌≡◌, subst, replicate, arith}
 use Rattle.mp_drill.specs.Workers.{idle}
 use Rattle.mp_drill.proofs.workers.idle_workers.Goals as goal
 

@@ -1,4 +1,4 @@
-use Rattle.std.proofs.Common.{◌≡◌, List, ℕ, subst, sym, ◌∙◌, Bool}
+use Rattle.std.proofs.Common.{List, ℕ, subst, sym, ◌∙◌, Bool}
 use Rattle.mp_ports.specs.Sinks.{TakesPrefix}
 use Rattle.std.specs.Io.KnownBytes.{Appends}
 use Rattle.mp_thintext.specs.declared.script.Entry.{Entry}
@@ -10,13 +10,13 @@ use Rattle.mp_run.proofs.goals.put_blocks.Goals as goal
 pub returns-in-Err-clause-writes : goal.returns-in-Err-clause-writes
 returns-in-Err-clause-writes g c =
     gives_up (IsBlock c.args.names.now c.args.theory.now c.args.schedule.now) c.args.entries (g.K.Sink.taken c.args.out.now) c.loop-entry.waiting (g.K.Sink.taken c.loop-entry.out) c.loop-entry.all_closed
-    c.loop-entry.invariant.put (some_blocks c.args.names.now c.args.theory.now c.args.schedule.now c.loop-entry.waiting)
+    c.loop-entry.invariant.put (some_blocks c.some_trace.ensures c.args.names.now c.args.theory.now c.args.schedule.now c.loop-entry.waiting)
 
 pub returns-in-Err-put-clause-writes : goal.returns-in-Err-put-clause-writes
 returns-in-Err-put-clause-writes g c =
     breaks_off (IsBlock c.args.names.now c.args.theory.now c.args.schedule.now) c.args.entries (g.K.Sink.taken c.args.out.now) c.loop-entry.waiting c.next.new.self c.in-Some.entry c.in-Ok.block
     (g.K.Sink.taken c.loop-entry.out) (g.K.Sink.taken c.put.new.self) c.loop-entry.all_closed c.loop-entry.invariant.put c.in-Some.ensures c.in-Ok.ensures
-    (some_blocks c.args.names.now c.args.theory.now c.args.schedule.now c.next.new.self)
+    (some_blocks c.some_trace.ensures c.args.names.now c.args.theory.now c.args.schedule.now c.next.new.self)
     (subst (λ (t : List ℕ). TakesPrefix (g.K.Sink.taken c.loop-entry.out) (g.K.Sink.taken c.put.new.self) t) c.as_slice.ensures c.in-Err-put.ensures.taken)
 
 pub loop-entry-preserved : goal.loop-entry-preserved

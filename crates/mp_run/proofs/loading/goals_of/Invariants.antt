@@ -1,4 +1,4 @@
-use Rattle.std.proofs.Common.{◌≡◌, ◌++◌, map, drop, take}
+use Rattle.std.proofs.Common.{◌≡◌, ◌++◌, map, drop}
 use Rattle.mp_thintext.specs.declared.script.Entry.{Entry}
 use Rattle.mp_run.proofs.loading.goals_of.Given as goal
 

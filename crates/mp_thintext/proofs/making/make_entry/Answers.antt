@@ -6,4 +6,4 @@ use Rattle.mp_thintext.proofs.making.make_entry.Goals as goal
 pub returns-clause-good : goal.returns-clause-good
 returns-clause-good c =
     let keeps : is_script c.args.theory.now c.args.raw.now ≡ true = search rules in
-    subst (IsGoodEntry c.args.theory.now) (sym (search rules)) (good_entry c.args.theory.now c.args.raw.now keeps)
+    subst (IsGoodEntry c.args.theory.now) (sym (search rules)) (good_entry c.args.theory.now c.args.raw.now c.requires.plain keeps)

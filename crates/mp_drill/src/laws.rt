@@ -1,0 +1,13 @@
+ghost use Rattle.mp_strategy.specs.declared.work.Work.{Work};
+ghost use Rattle.mp_strategy.specs.declared.outcome.Outcome.{Outcome};
+ghost use Rattle.mp_drill.specs.Laws.{OneTrace, SomeTrace, CanBeCompared};
+
+/// A schedule has one trace: whatever works evaluate to, the work and the events determine each reply and the outcome.
+pub fn one_trace<G>()
+    ensures { (eval : Work G → Outcome G) → OneTrace eval }
+{}
+
+/// Each schedule has a trace, where works can be compared.
+pub fn some_trace<G>()
+    ensures { CanBeCompared (Work G) → (eval : Work G → Outcome G) → SomeTrace eval }
+{}

@@ -1,0 +1,69 @@
+-- The instances of a pattern or a schema that give a term or a goal.
+use Rattle.std.specs.Prelude.{◌≡◌, ℕ, List, [], ◌∷◌, length, IsTrue, Option, Some, None}
+use Rattle.mp_logic.specs.declared.sym.Sym.{Sym}
+use Rattle.mp_term.specs.declared.term.Param.{Param}
+use Rattle.mp_term.specs.declared.term.Term.{Term}
+use Rattle.mp_term.specs.declared.sequent.Sequent.{Sequent}
+use Rattle.mp_schema.specs.declared.instance.CtxVal.{CtxVal}
+use Rattle.mp_schema.specs.declared.instance.MetaVal.{MetaVal}
+use Rattle.mp_schema.specs.declared.instance.Inst.{Inst}
+use Rattle.mp_schema.specs.declared.pattern.Pattern.{Pattern}
+use Rattle.mp_schema.specs.declared.schema.Schema.{Schema}
+use Rattle.mp_schema.specs.Instances.{Ground, upto, inst_of, fits}
+use Rattle.mp_schema.specs.Conditions.{has, context_names}
+use Rattle.mp_schema.specs.Sequents.{Instance, first_spot, behind_all, seq, schema_fits}
+use Rattle.mp_schema.specs.Values.{find_meta, find_param, find_ctx, first_of, instance_of}
+
+-- the instance has the values that are found
+pub record Agrees (v : Instance) (i : Inst) : Type 0 where
+  pub ambient : v.ambient ≡ i.ambient
+  pub ctxs : (name : Sym) (x : CtxVal) → find_ctx i.ctxs name ≡ Some x → v.kept name ≡ x.hyps
+  pub metas : (name : Sym) (x : MetaVal) → find_meta i.metas name ≡ Some x → v.values.meta name ≡ x.body
+  pub params : (name : Sym) (p : Param) → find_param i.params name ≡ Some p → v.values.param name ≡ p
+
+-- ## Goals
+
+-- the first of these contexts has so many hypotheses
+abbrev pub FirstHas : Instance → List Sym → ℕ → Type 0
+FirstHas v [] n = Unit {0}
+FirstHas v (c ∷ contexts) n = length (v.kept c) ≡ n
+
+-- the first context has the size that is given, if one is
+abbrev pub HasFirst : Instance → Schema → Option ℕ → Type 0
+HasFirst v s None = Unit {0}
+HasFirst v s (Some n) = FirstHas v (context_names s) n
+
+-- the instance makes the schema this goal, and its first context has the size that is given
+pub record GivesGoal (s : Schema) (first : Option ℕ) (goal : Sequent) (v : Instance) : Type 0 where
+  pub ambient : v.ambient ≡ 0
+  pub fit : IsTrue (schema_fits v s)
+  pub sized : HasFirst v s first
+  pub same : seq v s ≡ goal
+
+-- each context's first variable is at the level at which the context begins
+abbrev pub Begins : Inst → Schema → Type 0
+Begins i s = (name : Sym) → IsTrue (has (context_names s) name) → first_of i.ctxs name ≡ (behind_all (instance_of i) s.items first_spot).pos name
+
+-- the values of an instance that makes the schema this goal, which are those of every such instance; None where there is
+-- none
+abbrev pub IsInstance : Schema → Option ℕ → Sequent → Option Inst → Type 0
+IsInstance s first goal None = (v : Instance) → GivesGoal s first goal v → ⊥
+IsInstance s first goal (Some i) = GivesGoal s first goal (instance_of i) × Begins i s × ((v : Instance) → GivesGoal s first goal v → Agrees v i)
+
+-- ## Terms
+
+-- the variables that a value has before its arguments, where there are no contexts
+abbrev pub ambient_only : ℕ → Ground
+ambient_only a names = upto 0 a
+
+-- the instance makes the pattern this term, of this scope
+pub record GivesTerm (scope : ℕ) (p : Pattern) (t : Term) (v : Instance) : Type 0 where
+  pub ambient : v.ambient ≡ scope
+  pub fit : IsTrue (fits (λ names. scope) v.values p)
+  pub same : inst_of (ambient_only scope) v.values p [] scope ≡ t
+
+-- the values of an instance that makes the pattern this term, which are those of every such instance; None where there
+-- is none
+abbrev pub IsTermInstance : ℕ → Pattern → Term → Option Inst → Type 0
+IsTermInstance scope p t None = (v : Instance) → GivesTerm scope p t v → ⊥
+IsTermInstance scope p t (Some i) = GivesTerm scope p t (instance_of i) × ((v : Instance) → GivesTerm scope p t v → Agrees v i)

@@ -1,0 +1,33 @@
+use mp_logic::List;
+use mp_schema::{CtxVal, MetaVal, ParamVal};
+
+/// A place in a schema: what is matched on its left.
+#[derive(Drop)]
+pub(crate) struct Place {
+    /// The number of variables that each value may use.
+    pub ambient: u32,
+    /// The contexts before the place.
+    pub ctxs: List<CtxVal>,
+    /// The level of each named hypothesis before the place.
+    pub named: List<u32>,
+    /// The number of hypotheses of the goal before the place, and so the scope of the term there.
+    pub next: u32,
+}
+
+/// The values of second-order variables and holes that are found so far.
+#[derive(Drop)]
+pub(crate) struct Found {
+    /// The second-order variables' values.
+    pub metas: List<MetaVal>,
+    /// The holes' values.
+    pub params: List<ParamVal>,
+}
+
+/// What is matched before a place, and found so far.
+#[derive(Drop)]
+pub(crate) struct Walk {
+    /// The place.
+    pub place: Place,
+    /// What is found.
+    pub found: Found,
+}

@@ -1,0 +1,72 @@
+-- From what the parts of a step answer to the step.
+use Rattle.std.proofs.Common.{◌≡◌, ℕ, List, map, Bool, true, Option, Some, None, if◌then◌else◌, All, sym, ap, ◌∙◌, subst}
+use Rattle.std.specs.Prelude.{Result, Ok, Err, IfOk, length}
+use Rattle.mp_logic.specs.declared.logic.StepErr.{StepErr}
+use Rattle.mp_logic.specs.Steps.{Outcome, IsAnswer}
+use Rattle.mp_term.specs.declared.sequent.Sequent.{Sequent}
+use Rattle.mp_schema.specs.declared.instance.Inst.{Inst}
+use Rattle.mp_schema.specs.declared.schema.Schema.{Schema}
+use Rattle.mp_schema.specs.Sequents.{seq}
+use Rattle.mp_schema.specs.Values.{instance_of}
+use Rattle.mp_match.specs.Walks.{match_of}
+use Rattle.mp_theory.specs.declared.rule.Need.{Need}
+use Rattle.mp_theory.specs.declared.rule.Rule.{Rule}
+use Rattle.mp_theory.specs.declared.just.Given.{Given}
+use Rattle.mp_theory.specs.Needs.{needs_of}
+use Rattle.mp_theory.specs.Tables.{IsRule}
+use Rattle.mp_refiner.specs.Ready.{IsUsable, AreNew, IsReady}
+use Rattle.mp_refiner.specs.Steps.{given_all, limited, outcome_given, outcome_matched, outcome_of}
+use Rattle.mp_refiner.specs.laws.Asked.{IsAsked, need_usable, needs_new}
+use Rattle.mp_refiner.specs.laws.Filled.{gives_made}
+use Rattle.mp_refiner.specs.laws.Goods.{ready, AreGood, rule_keeps_good}
+use Rattle.mp_refiner.specs.laws.Lists.{in-all}
+use Rattle.mp_refiner.specs.laws.Widths.{AtMost, rule_narrow}
+
+module _ (rule : Rule) (first : Option ℕ) (given : List Given) (goal : Sequent) (whole : IsRule rule) (a : IsAsked rule.premises rule.concl first given goal)
+    (matched : Option Inst) (i : Inst) (found : matched ≡ match_of rule.concl first goal) (some : matched ≡ Some i) (ns : List Need) (needs : ns ≡ rule.needs) where
+  is : match_of rule.concl first goal ≡ Some i
+  is = sym found ∙ some
+
+  same_needs : ns ≡ needs_of rule.premises rule.concl
+  same_needs = needs ∙ whole.needs
+
+  pub usable_needs : All (IsUsable i.ctxs) ns
+  usable_needs =
+      subst (All (IsUsable i.ctxs)) (sym same_needs)
+      (in-all (IsUsable i.ctxs) (needs_of rule.premises rule.concl) (need_usable rule.premises rule.concl first given goal a i is))
+
+  pub new_needs : AreNew i.metas ns
+  new_needs = subst (AreNew i.metas) (sym same_needs) (needs_new rule.premises rule.concl first given goal a i is)
+
+  module _ (new : Inst) (gs : List Given) (terms : gs ≡ given) (done : Bool) (told : (if done then Some new else None) ≡ given_all ns gs i) (went : done ≡ true) where
+    all : given_all (needs_of rule.premises rule.concl) given i ≡ Some new
+    all =
+        ap (λ (ms : List Need). given_all ms given i) (sym same_needs) ∙ ap (λ hs. given_all ns hs i) (sym terms) ∙ sym told
+        ∙ ap (λ (b : Bool). if b then Some new else None) went
+
+    pub closed_new : new.ambient ≡ 0
+    closed_new = (gives_made rule.premises rule.concl first given goal a i is new all).ambient
+
+    pub ready_premises : (ps : List Schema) → ps ≡ rule.premises → All (IsReady (instance_of new)) ps
+    ready_premises ps same =
+        subst (All (IsReady (instance_of new))) (sym same)
+        (in-all (IsReady (instance_of new)) rule.premises (ready rule.premises rule.concl first given goal a i is new all))
+
+    pub step_answer : (ps : List Schema) → ps ≡ rule.premises → (r : Result (List Sequent) StepErr) → IsAnswer (limited (map (seq (instance_of new)) ps)) r →
+        IsAnswer (outcome_of rule first given goal) r
+    step_answer ps same r answer =
+        let e : limited (map (seq (instance_of new)) ps) ≡ outcome_of rule first given goal =
+        ap (λ qs. limited (map (seq (instance_of new)) qs)) same ∙ ap (outcome_given rule) (sym all) ∙ ap (outcome_matched rule given) (sym is) in
+        subst (λ o. IsAnswer o r) e answer
+
+-- what holds of the outcome's subgoals holds of the answer's
+answer_has : (P : List Sequent → Type 0) (o : Outcome Sequent) (r : Result (List Sequent) StepErr) → IsAnswer o r → IfOk o P → IfOk r P
+answer_has P o (Ok kids) a h = rw a at h
+answer_has P o (Err e) a h = tt
+
+module _ (rule : Rule) (first : Option ℕ) (given : List Given) (goal : Sequent) (r : Result (List Sequent) StepErr) (answer : IsAnswer (outcome_of rule first given goal) r) where
+  pub answer_good : IsAsked rule.premises rule.concl first given goal → IfOk r AreGood
+  answer_good a = answer_has AreGood (outcome_of rule first given goal) r answer (rule_keeps_good rule first given goal a)
+
+  pub answer_narrow : IfOk r (AtMost (length rule.premises))
+  answer_narrow = answer_has (AtMost (length rule.premises)) (outcome_of rule first given goal) r answer (rule_narrow rule first given goal)

@@ -1,0 +1,62 @@
+use Rattle.mp_refiner.specs.laws.Asked.{asked}
+use Rattle.mp_refiner.proofs.Stepping.{usable_needs, new_needs, closed_new, ready_premises, step_answer, answer_good, answer_narrow}
+use Rattle.mp_refiner.proofs.step.rule_step.Goals as goal
+
+pub match_sequent-requires-clause-conclusion : goal.match_sequent-requires-clause-conclusion
+match_sequent-requires-clause-conclusion c =
+    (asked c.args.rule.now c.args.first c.args.given.now c.args.goal.now c.requires.allowed c.requires.good).rule.conclusion
+
+pub match_sequent-requires-clause-narrow : goal.match_sequent-requires-clause-narrow
+match_sequent-requires-clause-narrow c = (asked c.args.rule.now c.args.first c.args.given.now c.args.goal.now c.requires.allowed c.requires.good).narrow
+
+pub give_all-requires-clause-usable : goal.give_all-requires-clause-usable
+give_all-requires-clause-usable c =
+    let r = c.args.rule.now in
+    let g = c.args.given.now in
+    let q = c.args.goal.now in
+    let a = asked r c.args.first g q c.requires.allowed c.requires.good in
+    usable_needs r c.args.first g q c.requires.rule a c.in-Ok.matched c.in-Some.inst c.in-Ok.ensures.value c.in-Some.is c.as_slice.result.now c.as_slice.ensures
+
+pub give_all-requires-clause-new : goal.give_all-requires-clause-new
+give_all-requires-clause-new c =
+    let r = c.args.rule.now in
+    let g = c.args.given.now in
+    let q = c.args.goal.now in
+    let a = asked r c.args.first g q c.requires.allowed c.requires.good in
+    new_needs r c.args.first g q c.requires.rule a c.in-Ok.matched c.in-Some.inst c.in-Ok.ensures.value c.in-Some.is c.as_slice.result.now c.as_slice.ensures
+
+pub build_kids-requires-clause-closed : goal.build_kids-requires-clause-closed
+build_kids-requires-clause-closed c =
+    let r = c.args.rule.now in
+    let g = c.args.given.now in
+    let q = c.args.goal.now in
+    let a = asked r c.args.first g q c.requires.allowed c.requires.good in
+    closed_new r c.args.first g q c.requires.rule a c.in-Ok.matched c.in-Some.inst c.in-Ok.ensures.value c.in-Some.is c.as_slice.result.now c.as_slice.ensures
+    c.give_all.new.inst c.as_slice-2.result.now c.as_slice-2.ensures c.in-Ok-true.field-0 c.in-Ok-true.ensures c.in-Ok-true.field-0-test
+
+pub build_kids-requires-clause-ready : goal.build_kids-requires-clause-ready
+build_kids-requires-clause-ready c =
+    let r = c.args.rule.now in
+    let g = c.args.given.now in
+    let q = c.args.goal.now in
+    let a = asked r c.args.first g q c.requires.allowed c.requires.good in
+    ready_premises r c.args.first g q c.requires.rule a c.in-Ok.matched c.in-Some.inst c.in-Ok.ensures.value c.in-Some.is c.as_slice.result.now c.as_slice.ensures
+    c.give_all.new.inst c.as_slice-2.result.now c.as_slice-2.ensures c.in-Ok-true.field-0 c.in-Ok-true.ensures c.in-Ok-true.field-0-test
+    c.as_slice-in-Ok-true.result.now c.as_slice-in-Ok-true.ensures
+
+pub returns-in-Ok-true : goal.returns-in-Ok-true
+returns-in-Ok-true c =
+    let r = c.args.rule.now in
+    let g = c.args.given.now in
+    let q = c.args.goal.now in
+    let a = asked r c.args.first g q c.requires.allowed c.requires.good in
+    let answer =
+    step_answer r c.args.first g q c.requires.rule a c.in-Ok.matched c.in-Some.inst c.in-Ok.ensures.value c.in-Some.is c.as_slice.result.now c.as_slice.ensures
+    c.give_all.new.inst c.as_slice-2.result.now c.as_slice-2.ensures c.in-Ok-true.field-0 c.in-Ok-true.ensures c.in-Ok-true.field-0-test
+    c.as_slice-in-Ok-true.result.now c.as_slice-in-Ok-true.ensures c.build_kids.result c.build_kids.ensures
+    in
+    record {
+      answer = answer;
+      good = answer_good r c.args.first g q c.build_kids.result answer a;
+      narrow = answer_narrow r c.args.first g q c.build_kids.result answer;
+    }

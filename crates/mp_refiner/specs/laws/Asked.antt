@@ -1,0 +1,169 @@
+-- What a step may ask, and what it finds before it builds the subgoals.
+use Rattle.std.proofs.Common.{◌≡◌, ◌≤◌, ◌<◌, ◌^◌, ◌+◌, inl, inr, ℕ, List, [], ◌∷◌, length, min, true, Option, Some, None, refl, sym, ap, ◌∙◌, arith}
+use Rattle.std.specs.Prelude.{◌&&◌, ◌↔◌, IsTrue, IsSome, is_some, nat_le}
+use Rattle.std.specs.List.{list_all}
+use Rattle.std.proofs.lemmas.Bool.Decides.{nat_tests}
+use Rattle.std.proofs.lemmas.Grind.{common_steps}
+use Rattle.std.proofs.lemmas.List.Elements.{All-weaker}
+use Rattle.mp_term.specs.declared.sequent.Sequent.{Sequent}
+use Rattle.mp_term.specs.Terms.{in_scope_of, depth_of}
+use Rattle.mp_term.specs.Limits.{is_shallow, few_binders_of, within_limits_of, sequent_in_scope_of, sequent_few_binders_of}
+use Rattle.mp_schema.specs.declared.instance.CtxVal.{CtxVal}
+use Rattle.mp_schema.specs.declared.instance.MetaVal.{MetaVal}
+use Rattle.mp_schema.specs.declared.instance.Inst.{Inst}
+use Rattle.mp_schema.specs.declared.schema.Schema.{Schema}
+use Rattle.mp_schema.specs.Conditions.{nothing_before, past_all, has_all, is_apart, is_known, context_names, has_two_contexts}
+use Rattle.mp_theory.specs.Allowed.{same_bool}
+use Rattle.mp_schema.specs.Values.{find_meta}
+use Rattle.mp_match.specs.Walks.{match_of, widest_in_sequent}
+use Rattle.mp_match.proofs.Narrow.{narrow-goal}
+use Rattle.mp_match.proofs.SequentSpread.{IsSpread, match_spreads}
+use Rattle.mp_theory.specs.declared.rule.Need.{Need}
+use Rattle.mp_theory.specs.declared.rule.Rule.{Rule}
+use Rattle.mp_theory.specs.declared.just.Given.{Given}
+use Rattle.mp_theory.specs.Needs.{needs_of}
+use Rattle.mp_theory.specs.Tables.{is_faultless}
+use Rattle.mp_refiner.specs.Ready.{IsUsable, AreNew}
+use Rattle.mp_theory.specs.Allowed.{is_good, is_for, are_for, is_allowed_at}
+use Rattle.mp_refiner.specs.laws.Lists.{In}
+use Rattle.mp_refiner.specs.laws.Kinds.{has_all-has}
+use Rattle.mp_refiner.specs.laws.Uses.{HaveApartNames, need-from, needs_apart}
+use Rattle.mp_refiner.specs.laws.Agreeing.{and_both}
+use Rattle.mp_refiner.specs.laws.Placed.{IsWithin, is_known_more, placed_known, past_within}
+use Rattle.mp_refiner.specs.laws.Sound.{IsSound, sound}
+use Rattle.mp_refiner.specs.laws.Matched.{sized_where_two, match_gives, match_only}
+use Rattle.mp_refiner.specs.laws.Unused.{unused_meta}
+use Rattle.mp_refiner.specs.laws.Given.{AreUsable}
+
+-- ## What is asked
+
+-- a given term that is for a need
+pub record IsForNeed (n : Need) (g : Given) : Type 0 where
+  pub scoped : IsTrue (in_scope_of g.body (200 + n.arity))
+  pub shallow : depth_of g.body ≤ 200
+  pub few : IsTrue (few_binders_of g.body)
+
+for_need : (n : Need) (g : Given) → is_for n g ≡ true → IsForNeed n g
+for_need n g h = record {
+  scoped = grind (arith, nat_tests, common_steps, h);
+  shallow = grind (arith, nat_tests, common_steps, h);
+  few = grind (arith, nat_tests, common_steps, h);
+}
+
+abbrev pub AreForNeeds : List Need → List Given → Type 0
+AreForNeeds [] [] = Unit {0}
+AreForNeeds [] (g ∷ gs) = ⊥
+AreForNeeds (n ∷ ns) [] = ⊥
+AreForNeeds (n ∷ ns) (g ∷ gs) = IsForNeed n g × AreForNeeds ns gs
+
+for_needs : (ns : List Need) (gs : List Given) → are_for ns gs ≡ true → AreForNeeds ns gs
+for_needs [] [] h = tt
+for_needs [] (g ∷ gs) h = absurd cc
+for_needs (n ∷ ns) [] h = absurd cc
+for_needs (n ∷ ns) (g ∷ gs) h = let both = and_both (is_for n g) (are_for ns gs) h in (for_need n g both.0, for_needs ns gs both.1)
+
+pub as_many : (ns : List Need) (gs : List Given) → AreForNeeds ns gs → length ns ≡ length gs
+as_many [] [] h = refl
+as_many [] (g ∷ gs) h = absurd h
+as_many (n ∷ ns) [] h = absurd h
+as_many (n ∷ ns) (g ∷ gs) h = let e = as_many ns gs h.1 in omega arith
+
+-- a step by a rule without a fault, on a good goal, as its justification may ask it
+pub record IsAsked (ps : List Schema) (c : Schema) (first : Option ℕ) (given : List Given) (goal : Sequent) : Type 0 where
+  pub rule : IsSound ps c
+  pub two : IsSome first ↔ IsTrue (has_two_contexts c)
+  pub terms : AreForNeeds (needs_of ps c) given
+  pub scoped : IsTrue (sequent_in_scope_of goal)
+  pub narrow : widest_in_sequent goal < 2 ^ 31
+  pub many : length goal.hyps ≤ 200
+  pub few : list_all few_binders_of goal.hyps ≡ true
+  pub few_end : few_binders_of goal.concl ≡ true
+  pub shallow : list_all is_shallow goal.hyps ≡ true
+  pub shallow_end : is_shallow goal.concl ≡ true
+
+pub asked : (rule : Rule) (first : Option ℕ) (given : List Given) (goal : Sequent) → IsTrue (is_allowed_at (Some rule) first given) → IsTrue (is_good goal) →
+    IsAsked rule.premises rule.concl first given goal
+asked rule first given goal allowed good =
+    let a = and_both (is_faultless rule && same_bool (is_some first) (has_two_contexts rule.concl)) (are_for (needs_of rule.premises rule.concl) given) allowed in
+    let b = and_both (is_faultless rule) (same_bool (is_some first) (has_two_contexts rule.concl)) a.0 in
+    let g = and_both (sequent_in_scope_of goal && sequent_few_binders_of goal) (within_limits_of goal) good in
+    let h = and_both (sequent_in_scope_of goal) (sequent_few_binders_of goal) g.0 in
+    let few = and_both (list_all few_binders_of goal.hyps) (few_binders_of goal.concl) h.1 in
+    let limits = and_both _ (nat_le _ 20000) g.1 in
+    let ends = and_both _ (is_shallow goal.concl) limits.0 in
+    let hyps = and_both (nat_le (length goal.hyps) 200) (list_all is_shallow goal.hyps) ends.0 in
+    let narrow = narrow-goal goal g.1 h.1 in
+    record {
+      rule = sound rule b.0;
+      two = sized_where_two first (has_two_contexts rule.concl) b.1;
+      terms = for_needs (needs_of rule.premises rule.concl) given a.1;
+      scoped = h.0;
+      narrow = omega arith;
+      many = let k = hyps.0 in grind (arith, nat_tests, k);
+      few = few.0;
+      few_end = few.1;
+      shallow = hyps.1;
+      shallow_end = ends.1;
+    }
+
+-- ## What needs may use
+
+usable_given : (ctxs : List CtxVal) (ns : List Need) (gs : List Given) → AreForNeeds ns gs → ((n : Need) → In n ns → IsUsable ctxs n) → AreUsable ctxs ns gs
+usable_given ctxs [] gs h k = tt
+usable_given ctxs (n ∷ ns) [] h k = absurd h
+usable_given ctxs (n ∷ ns) (g ∷ gs) h k = (k n (inl refl), h.0.scoped, usable_given ctxs ns gs h.1 (λ m i. k m (inr i)))
+
+new_given : (metas : List MetaVal) (ns : List Need) → HaveApartNames ns → ((n : Need) → In n ns → find_meta metas n.name ≡ None) → AreNew metas ns
+new_given metas [] h k = tt
+new_given metas (n ∷ ns) h k = (k n (inl refl), h.0, new_given metas ns h.1 (λ m i. k m (inr i)))
+
+module _ (ps : List Schema) (c : Schema) (first : Option ℕ) (given : List Given) (goal : Sequent) (a : IsAsked ps c first given goal) where
+  -- a need's contexts are those of the conclusion, each once
+  need_known : (n : Need) → In n (needs_of ps c) → is_known (past_all c.items nothing_before).contexts n.ctxs ≡ true
+  need_known n i =
+      let f = need-from ps c n i in
+      let lists : f.at.ctxs ≡ n.ctxs = ap (λ (m : Need). m.ctxs) f.same in
+      let here = placed_known f.premise f.at (a.rule.placed f.premise f.in_premises) f.there in
+      let within : IsWithin (context_names f.premise) (past_all c.items nothing_before).contexts =
+      λ name e.
+      let k = has_all-has (context_names c) (context_names f.premise) name (a.rule.even.listed f.premise f.in_premises) e in
+      past_within c.items nothing_before name ∙ k in
+      ap (λ cs. is_known (past_all c.items nothing_before).contexts cs) (sym lists) ∙ is_known_more (context_names f.premise) (past_all c.items nothing_before).contexts f.at.ctxs within here
+
+  pub need_listed : (n : Need) → In n (needs_of ps c) → has_all (context_names c) n.ctxs ≡ true
+  need_listed n i =
+      let f = need-from ps c n i in
+      let lists : f.at.ctxs ≡ n.ctxs = ap (λ (m : Need). m.ctxs) f.same in
+      let here = placed_known f.premise f.at (a.rule.placed f.premise f.in_premises) f.there in
+      let within : IsWithin (context_names f.premise) (context_names c) = λ name e. has_all-has (context_names c) (context_names f.premise) name (a.rule.even.listed f.premise f.in_premises) e in
+      let k = is_known_more (context_names f.premise) (context_names c) f.at.ctxs within here in
+      ap (λ cs. has_all (context_names c) cs) (sym lists) ∙ (and_both (has_all (context_names c) f.at.ctxs) (is_apart f.at.ctxs) k).0
+
+  need_few : (n : Need) → In n (needs_of ps c) → n.arity ≤ 8
+  need_few n i =
+      let f = need-from ps c n i in
+      let few = a.rule.even.few f.premise f.at f.in_premises f.there in
+      let e : min (length f.at.levels) 4294967295 ≡ n.arity = ap (λ (m : Need). m.arity) f.same in
+      omega arith
+
+  module _ (i : Inst) (is : match_of c first goal ≡ Some i) where
+    spread : IsSpread i c goal
+    spread = match_spreads c first goal a.rule.conclusion a.two a.scoped a.narrow i is
+
+    pub need_usable : (n : Need) → In n (needs_of ps c) → IsUsable i.ctxs n
+    need_usable n j = record {
+      few = need_few n j;
+      distinct = spread.distinct n.ctxs (need_known n j);
+      below =
+          let many = a.many in
+          All-weaker (λ l. l < length goal.hyps) (λ l. l < 200) (λ l lt. omega arith) _ (spread.below n.ctxs);
+    }
+
+    pub needs_usable : AreUsable i.ctxs (needs_of ps c) given
+    needs_usable = usable_given i.ctxs (needs_of ps c) given a.terms need_usable
+
+    pub needs_new : AreNew i.metas (needs_of ps c)
+    needs_new =
+        new_given i.metas (needs_of ps c) (needs_apart ps c) (λ n j.
+        unused_meta c first goal i a.rule.placed_end (match_gives c first goal a.rule.conclusion a.two a.scoped a.narrow i is) (match_only c first goal a.rule.conclusion a.two a.scoped a.narrow i is)
+        n.name (need-from ps c n j).new)

@@ -1,0 +1,128 @@
+-- Elements of lists.
+use Rattle.std.proofs.Common.{◌≡◌, ◌⊎◌, inl, inr, zero, suc, List, [], ◌∷◌, ◌++◌, Bool, true, false, cond, Option, Some, None, refl, sym, ap, ◌∙◌, subst, arith}
+use Rattle.std.specs.Prelude.{◌&&◌, All}
+use Rattle.std.specs.List.{list_all, flat_map, find, AllByRecursion}
+use Rattle.std.proofs.lemmas.Grind.{common_steps}
+
+-- x is an element
+abbrev pub In : {X : Type 0} → X → List X → Type 0
+In x [] = ⊥
+In x (y ∷ ys) = (y ≡ x) ⊎ In x ys
+
+abbrev pub value_or : {X : Type 0} → X → Option X → X
+value_or d None = d
+value_or d (Some x) = x
+
+-- a test is passed or not
+pub decided : (b : Bool) → (b ≡ true) ⊎ (b ≡ false)
+decided true = inl refl
+decided false = inr refl
+
+module _ {X : Type 0} where
+  module _ (P : X → Type 0) where
+    pub each-in : (xs : List X) (x : X) → AllByRecursion P xs → In x xs → P x
+    each-in [] x h i = absurd i
+    each-in (y ∷ ys) x h (inl e) = subst P e h.0
+    each-in (y ∷ ys) x h (inr i) = each-in ys x h.1 i
+
+    pub in-each : (xs : List X) → ((x : X) → In x xs → P x) → AllByRecursion P xs
+    in-each [] h = tt
+    in-each (y ∷ ys) h = (h y (inl refl), in-each ys (λ x i. h x (inr i)))
+
+    pub in-all : (xs : List X) → ((x : X) → In x xs → P x) → All P xs
+    in-all [] k = λ i d lt. absurd (omega arith)
+    in-all (x ∷ xs) k = at (k x (inl refl)) (in-all xs (λ y i. k y (inr i)))
+      where
+        at : P x → All P xs → All P (x ∷ xs)
+        at here rest zero d lt = here
+        at here rest (suc i) d lt = rest i d (omega arith)
+
+    pub each-append : (xs ys : List X) → AllByRecursion P xs → AllByRecursion P ys → AllByRecursion P (xs ++ ys)
+    each-append [] ys h k = k
+    each-append (x ∷ xs) ys h k = (h.0, each-append xs ys h.1 k)
+
+    pub each-split : (xs ys : List X) → AllByRecursion P (xs ++ ys) → AllByRecursion P xs × AllByRecursion P ys
+    each-split [] ys h = (tt, h)
+    each-split (x ∷ xs) ys h = let k = each-split xs ys h.1 in ((h.0, k.0), k.1)
+
+  module _ (P Q : X → Type 0) (to : (x : X) → P x → Q x) where
+    pub each-weaker : (xs : List X) → AllByRecursion P xs → AllByRecursion Q xs
+    each-weaker [] h = tt
+    each-weaker (x ∷ xs) h = (to x h.0, each-weaker xs h.1)
+
+  pub in-left : (x : X) (xs ys : List X) → In x xs → In x (xs ++ ys)
+  in-left x [] ys i = absurd i
+  in-left x (z ∷ xs) ys (inl e) = inl e
+  in-left x (z ∷ xs) ys (inr i) = inr (in-left x xs ys i)
+
+  pub in-right : (x : X) (xs ys : List X) → In x ys → In x (xs ++ ys)
+  in-right x [] ys i = i
+  in-right x (z ∷ xs) ys i = inr (in-right x xs ys i)
+
+  pub in-split : (x : X) (xs ys : List X) → In x (xs ++ ys) → In x xs ⊎ In x ys
+  in-split x [] ys i = inr i
+  in-split x (z ∷ xs) ys (inl e) = inl (inl e)
+  in-split x (z ∷ xs) ys (inr i) = elim (in-split x xs ys i) [ inl j ↦ inl (inr j) | inr j ↦ inr j ]
+
+  module _ (test : X → Bool) where
+    pub all-each : (xs : List X) → list_all test xs ≡ true → AllByRecursion (λ x. test x ≡ true) xs
+    all-each [] e = tt
+    all-each (x ∷ xs) e =
+        let here : test x ≡ true = grind (arith, common_steps) in
+        let there : list_all test xs ≡ true = grind (arith, common_steps) in
+        (here, all-each xs there)
+
+    pub each-all : (xs : List X) → AllByRecursion (λ x. test x ≡ true) xs → list_all test xs ≡ true
+    each-all [] h = refl
+    each-all (x ∷ xs) h = let rest = each-all xs h.1 in rw (h.0, rest) refl
+
+    pub all-in : (xs : List X) (x : X) → list_all test xs ≡ true → In x xs → test x ≡ true
+    all-in xs x e i = each-in (λ x. test x ≡ true) xs x (all-each xs e) i
+
+    pub list_all-append : (xs ys : List X) → list_all test (xs ++ ys) ≡ (list_all test xs && list_all test ys)
+    list_all-append [] ys = refl
+    list_all-append (x ∷ xs) ys = let ih = list_all-append xs ys in grind (arith, common_steps, ih)
+
+    pub find-Some : (xs : List X) (x : X) → find test xs ≡ Some x → In x xs × (test x ≡ true)
+    find-Some [] x e = absurd cc
+    find-Some (y ∷ ys) x e = by (test y) refl e (find-Some ys x)
+      where
+        by : (b : Bool) → test y ≡ b → cond b (Some y) (find test ys) ≡ Some x → (find test ys ≡ Some x → In x ys × (test x ≡ true)) → In x (y ∷ ys) × (test x ≡ true)
+        by true t k rest = let same : y ≡ x = ap (value_or x) k in (inl same, ap test (sym same) ∙ t)
+        by false t k rest = let r = rest k in (inr r.0, r.1)
+
+    pub find-None : (xs : List X) (x : X) → find test xs ≡ None → In x xs → test x ≡ false
+    find-None [] x e i = absurd i
+    find-None (y ∷ ys) x e i = by (test y) refl e i (find-None ys x)
+      where
+        by : (b : Bool) → test y ≡ b → cond b (Some y) (find test ys) ≡ None → In x (y ∷ ys) → (find test ys ≡ None → In x ys → test x ≡ false) → test x ≡ false
+        by true t k j rest = absurd cc
+        by false t k (inl same) rest = ap test (sym same) ∙ t
+        by false t k (inr j) rest = rest k j
+
+module _ {X Y : Type 0} (f : X → List Y) where
+  pub in-flat : (xs : List X) (x : X) (y : Y) → In x xs → In y (f x) → In y (flat_map f xs)
+  in-flat [] x y i j = absurd i
+  in-flat (z ∷ xs) x y (inl e) j = in-left y (f z) (flat_map f xs) (subst (λ w. In y (f w)) (sym e) j)
+  in-flat (z ∷ xs) x y (inr i) j = in-right y (f z) (flat_map f xs) (in-flat xs x y i j)
+
+  pub flat-in : (xs : List X) (y : Y) → In y (flat_map f xs) → (x : X) × (In x xs × In y (f x))
+  flat-in [] y i = absurd i
+  flat-in (z ∷ xs) y i = elim (in-split y (f z) (flat_map f xs) i) [
+    | inl j ↦ (z, (inl refl, j))
+    | inr j ↦ let r = flat-in xs y j in (r.0, (inr r.1.0, r.1.1))
+  ]
+
+  module _ (P : Y → Type 0) where
+    pub each-flat : (xs : List X) → AllByRecursion (λ x. AllByRecursion P (f x)) xs → AllByRecursion P (flat_map f xs)
+    each-flat [] h = tt
+    each-flat (x ∷ xs) h = each-append P (f x) (flat_map f xs) h.0 (each-flat xs h.1)
+
+    pub flat-each : (xs : List X) → AllByRecursion P (flat_map f xs) → AllByRecursion (λ x. AllByRecursion P (f x)) xs
+    flat-each [] h = tt
+    flat-each (x ∷ xs) h = let k = each-split P (f x) (flat_map f xs) h in (k.0, flat-each xs k.1)
+
+  module _ (test : Y → Bool) where
+    pub all-flat : (xs : List X) → list_all test (flat_map f xs) ≡ list_all (λ x. list_all test (f x)) xs
+    all-flat [] = refl
+    all-flat (x ∷ xs) = let ih = all-flat xs in list_all-append test (f x) (flat_map f xs) ∙ ap (λ b. list_all test (f x) && b) ih

@@ -1,0 +1,94 @@
+-- The variables that a given term may use are those of the contexts that are found.
+use Rattle.std.proofs.Common.{◌≡◌, inl, inr, ℕ, ◌+◌, List, [], ◌∷◌, ◌++◌, map, length, sum, true, refl, sym, ap, ◌∙◌, subst, arith}
+use Rattle.std.specs.Prelude.{IsTrue}
+use Rattle.std.proofs.lemmas.Grind.{common_steps}
+use Rattle.std.proofs.lemmas.List.{length-append}
+use Rattle.mp_logic.specs.declared.sym.Sym.{Sym}
+use Rattle.mp_term.specs.declared.term.Term.{Term, Var}
+use Rattle.mp_term.specs.Terms.{in_scope_of}
+use Rattle.mp_subst.specs.Subst.{sub_of}
+use Rattle.mp_schema.specs.declared.instance.Inst.{Inst}
+use Rattle.mp_schema.specs.declared.schema.Schema.{Schema}
+use Rattle.mp_schema.specs.Conditions.{has, has_all, context_names}
+use Rattle.mp_schema.specs.Instances.{upto}
+use Rattle.mp_schema.specs.Sequents.{Instance, first_spot, joined, behind_all, ground_at, wide_of}
+use Rattle.mp_schema.specs.Values.{variables_of, first_of, kept_of}
+use Rattle.mp_match.specs.Giving.{given_levels}
+use Rattle.mp_match.proofs.Ranges.{length-upto}
+use Rattle.mp_theory.specs.declared.rule.Need.{Need}
+use Rattle.mp_theory.specs.declared.just.Given.{Given}
+use Rattle.mp_refiner.specs.RuleStep.{given_variables, Meets, MeetsAll}
+use Rattle.mp_refiner.specs.laws.Lists.{In}
+use Rattle.mp_refiner.specs.laws.Agreeing.{and_both}
+use Rattle.mp_refiner.specs.laws.Given.{MeetsBy, AllMeetBy}
+
+-- the contexts of an instance are those that are found: each has the same hypotheses and begins at the same level
+pub record IsLaidAs (v : Instance) (c : Schema) (i : Inst) : Type 0 where
+  pub ambient : v.ambient ≡ 0
+  pub pos : (name : Sym) → has (context_names c) name ≡ true → (behind_all v c.items first_spot).pos name ≡ first_of i.ctxs name
+  pub kept : (name : Sym) → has (context_names c) name ≡ true → v.kept name ≡ kept_of i.ctxs name
+
+module _ (v : Instance) (c : Schema) (i : Inst) (laid : IsLaidAs v c i) where
+  abbrev pos : Sym → ℕ
+  pos = (behind_all v c.items first_spot).pos
+
+  same_blocks : (cs : List Sym) → has_all (context_names c) cs ≡ true → joined (map (λ n. upto (pos n) (length (v.kept n))) cs) ≡ variables_of i.ctxs cs
+  same_blocks [] e = refl
+  same_blocks (n ∷ cs) e =
+      let both = and_both (has (context_names c) n) (has_all (context_names c) cs) e in
+      let p = laid.pos n both.0 in
+      let k = laid.kept n both.0 in
+      let rest = same_blocks cs both.1 in
+      ap (λ m. upto m (length (v.kept n)) ++ joined (map (λ n. upto (pos n) (length (v.kept n))) cs)) p
+      ∙ ap (λ (ts : List Term). upto (first_of i.ctxs n) (length ts) ++ joined (map (λ n. upto (pos n) (length (v.kept n))) cs)) k
+      ∙ ap (λ ls. upto (first_of i.ctxs n) (length (kept_of i.ctxs n)) ++ ls) rest
+
+  same_ground : (cs : List Sym) → has_all (context_names c) cs ≡ true → ground_at v pos cs ≡ variables_of i.ctxs cs
+  same_ground cs e = ap (λ n. upto 0 n ++ joined (map (λ n. upto (pos n) (length (v.kept n))) cs)) laid.ambient ∙ same_blocks cs e
+
+  length-blocks : (cs : List Sym) → has_all (context_names c) cs ≡ true → length (variables_of i.ctxs cs) ≡ sum (map (λ n. length (v.kept n)) cs)
+  length-blocks [] e = refl
+  length-blocks (n ∷ cs) e =
+      let both = and_both (has (context_names c) n) (has_all (context_names c) cs) e in
+      let k = ap (λ (ts : List Term). length ts) (laid.kept n both.0) in
+      let rest = length-blocks cs both.1 in
+      let one = length-upto (first_of i.ctxs n) (length (kept_of i.ctxs n)) in
+      let all = length-append (upto (first_of i.ctxs n) (length (kept_of i.ctxs n))) (variables_of i.ctxs cs) in
+      let total : sum (map (λ n. length (v.kept n)) (n ∷ cs)) ≡ length (v.kept n) + sum (map (λ n. length (v.kept n)) cs) = grind (arith, common_steps) in
+      omega arith
+
+  module _ (n : Need) (known : has_all (context_names c) n.ctxs ≡ true) where
+    same_variables : given_variables v c n ≡ given_levels i.ctxs n.ctxs n.arity
+    same_variables = ap (λ ls. ls ++ upto 200 n.arity) (same_ground n.ctxs known)
+
+    same_width : wide_of v n.ctxs + n.arity ≡ length (given_levels i.ctxs n.ctxs n.arity)
+    same_width =
+        let a = laid.ambient in
+        let b = length-blocks n.ctxs known in
+        let d = length-upto 200 n.arity in
+        let e = length-append (variables_of i.ctxs n.ctxs) (upto 200 n.arity) in
+        omega arith
+
+    to_levels : (g : Given) → Meets v c n g → MeetsBy i.ctxs v n g
+    to_levels g m = record {
+      fits = subst (λ k. IsTrue (in_scope_of (v.values.meta n.name) k)) same_width m.fits;
+      gives = ap (λ ls. sub_of (v.values.meta n.name) (map Var ls) (200 + n.arity)) (sym same_variables) ∙ m.gives;
+    }
+
+    from_levels : (g : Given) → MeetsBy i.ctxs v n g → Meets v c n g
+    from_levels g m = record {
+      fits = subst (λ k. IsTrue (in_scope_of (v.values.meta n.name) k)) (sym same_width) m.fits;
+      gives = ap (λ ls. sub_of (v.values.meta n.name) (map Var ls) (200 + n.arity)) same_variables ∙ m.gives;
+    }
+
+  pub meets_by : (ns : List Need) (gs : List Given) → ((n : Need) → In n ns → has_all (context_names c) n.ctxs ≡ true) → MeetsAll v c ns gs → AllMeetBy i.ctxs v ns gs
+  meets_by [] [] k m = tt
+  meets_by [] (g ∷ gs) k m = absurd m
+  meets_by (n ∷ ns) [] k m = absurd m
+  meets_by (n ∷ ns) (g ∷ gs) k m = (to_levels n (k n (inl refl)) g m.0, meets_by ns gs (λ x i. k x (inr i)) m.1)
+
+  pub by_meets : (ns : List Need) (gs : List Given) → ((n : Need) → In n ns → has_all (context_names c) n.ctxs ≡ true) → AllMeetBy i.ctxs v ns gs → MeetsAll v c ns gs
+  by_meets [] [] k m = tt
+  by_meets [] (g ∷ gs) k m = absurd m
+  by_meets (n ∷ ns) [] k m = absurd m
+  by_meets (n ∷ ns) (g ∷ gs) k m = (from_levels n (k n (inl refl)) g m.0, by_meets ns gs (λ x i. k x (inr i)) m.1)

@@ -1,0 +1,9 @@
+use Rattle.mp_run.specs.Laws.{OneAnswer}
+use Rattle.mp_run.proofs.Uniqueness.{one_answer_to, one_output}
+use Rattle.mp_run.proofs.laws.one_answer.Goals as goal
+
+pub returns : goal.returns
+returns c =
+    let texts = c.one_text.ensures in
+    let one : OneAnswer = λ files command told. one_answer_to c.one_trace.ensures texts.theory texts.script texts.schedule files command told in
+    record { answer = one; output = one_output one }

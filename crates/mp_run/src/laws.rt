@@ -1,0 +1,15 @@
+ghost use Rattle.mp_run.specs.Laws.{OneAnswer, OneOutput};
+
+use mp_drill::one_trace;
+use mp_term::Sequent;
+use mp_thintext::one_text;
+
+/// Over files whose bytes are told a command has one answer, so runs that write whole answers end under one status and
+/// write the same bytes. It rests on the laws that it calls: a text says one thing, and a schedule has one trace.
+pub fn one_answer()
+    ensures answer { OneAnswer }
+    ensures output { OneOutput }
+{
+    one_text();
+    one_trace::<Sequent>();
+}

@@ -1,0 +1,13 @@
+pub mod Applied
+pub mod Befores
+pub mod Conditional
+pub mod Faultless
+pub mod Finding
+pub mod Fitting
+pub mod Layers
+pub mod Likeness
+pub mod Names
+pub mod Placing
+pub mod Rewrites
+pub mod Spread
+pub mod Told

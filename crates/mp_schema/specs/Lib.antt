@@ -1,0 +1,10 @@
+pub mod Conditions
+pub mod Faultless
+pub mod Faults
+pub mod Induction
+pub mod Instances
+pub mod Limits
+pub mod Occurrences
+pub mod Places
+pub mod Sequents
+pub mod Values

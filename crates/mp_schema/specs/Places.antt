@@ -1,0 +1,7 @@
+-- The occurrence that a place in a text is.
+use Rattle.std.specs.Prelude.{map}
+use Rattle.mp_schema.specs.declared.place.Place.{Place}
+use Rattle.mp_schema.specs.Occurrences.{Occurrence, level_of}
+
+abbrev pub occurrence_at : Place → Occurrence
+occurrence_at p = record { is_context = p.is_context; name = p.name; ctxs = p.ctxs.now; levels = map level_of p.args.now }

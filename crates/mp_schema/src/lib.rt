@@ -1,0 +1,44 @@
+//! Patterns with second-order variables, schemata of sequents with contexts, and their instances.
+//!
+//! A schema is what a rule speaks in: items, each a context or a named hypothesis, and a conclusion. Its
+//! instances are the sequents that it makes when each context gets a list of hypotheses, each second-order
+//! variable a term and each hole a parameter. `specs/Instances.antt` and `specs/Sequents.antt` define them, and
+//! `specs/Conditions.antt` says what matching and building ask of them.
+//!
+//! `rule_fault` and `rewrite_fault` answer what is wrong with a rule or a rewrite. `specs/Faults.antt` defines each
+//! fault, and `specs/Faultless.antt` says what is known where there is none.
+//!
+//! Second-order variables are those of G. Huet and B. Lang, "Proving and applying program transformations
+//! expressed with second-order patterns", 1978; that those of a conclusion are applied to distinct variables
+//! is the condition of D. Miller, "A logic programming language with lambda-abstraction, function variables,
+//! and simple unification", 1991. Contexts are those of the sequent schemata of A. Nogin and J. Hickey,
+//! "Sequent schema for derived rules", 2002.
+#![tactic(auto)]
+
+mod contexts;
+mod demand;
+mod fault;
+mod find;
+mod first;
+mod holes;
+mod instance;
+mod laws;
+mod levels;
+mod limits;
+mod pattern;
+mod place;
+mod rewrite;
+mod rule;
+mod schema;
+#[cfg(test)]
+mod tests;
+mod uses;
+
+pub use fault::SchemaFault;
+pub use find::{context_value, meta_value, param_value};
+pub use instance::{CtxVal, Inst, MetaVal, ParamVal};
+pub use laws::{faultless_laws, fitting_laws};
+pub use pattern::{PBound, ParamPat, Pattern};
+pub use rewrite::rewrite_fault;
+pub use rule::rule_fault;
+pub use schema::{Item, Schema};

@@ -1,0 +1,112 @@
+-- The static rules of terms and sequents as they are written.
+use Rattle.std.specs.Prelude.{ℕ, zero, suc, ◌+◌, ◌++◌, sum, sum_by, List, [], ◌∷◌, map, Option, None, Some, Bool, true, false, nat_lt, nat_eq, if◌then◌else◌}
+use Rattle.mp_logic.specs.declared.sym.Sym.{Sym}
+use Rattle.mp_termtext.specs.declared.raw.Binder.{Binder}
+use Rattle.mp_termtext.specs.declared.raw.RawBound.{RawBound, RawBound-F, fold-RawBound}
+use Rattle.mp_termtext.specs.declared.raw.RawTerm.{RawTerm, RawTerm-F}
+use Rattle.mp_termtext.specs.declared.raw.RawTerm.TheOpen as layer
+use Rattle.mp_termtext.specs.declared.raw.RawTerm.TheFolds.{fold-RawTerm}
+use Rattle.mp_termtext.specs.declared.raw.RawHyp.{RawHyp}
+use Rattle.mp_termtext.specs.declared.raw.RawSequent.{RawSequent}
+use Rattle.mp_termtext.specs.declared.fail.TextWhy.TheVariants as why
+use Rattle.mp_termtext.specs.declared.fault.Fault.{Fault}
+use Rattle.mp_termtext.specs.Faults.{fault, fault_if, too_many}
+
+abbrev pub or_here : Option ℕ → Bool → Option ℕ
+or_here (Some i) here = Some (1 + i)
+or_here None true = Some 0
+or_here None false = None
+
+-- the place of the last name of the list that is this one
+abbrev pub place_in : List Sym → Sym → Option ℕ
+place_in [] name = None
+place_in (n ∷ ns) name = or_here (place_in ns name) (nat_eq n.0 name.0)
+
+-- the level of `x` followed by k, where so many free names are `x1` and so on
+abbrev pub free_level : ℕ → Option ℕ → Option ℕ
+free_level free None = None
+free_level free (Some zero) = None
+free_level free (Some (suc level)) = if nat_lt level free then Some level else None
+
+abbrev pub level_by : ℕ → Option ℕ → Option ℕ → Option ℕ
+level_by free (Some i) k = Some (free + i)
+level_by free None k = free_level free k
+
+-- the level that a variable means, where these names are bound behind so many free ones: the last one bound under its name, and else the free one of its number
+abbrev pub level_of : ℕ → List Sym → Sym → Option ℕ → Option ℕ
+level_of free env name k = level_by free (place_in env name) k
+
+abbrev pub names_of : List Binder → List Sym
+names_of bs = map (λ b. b.name) bs
+
+-- a node at depth over 200
+abbrev pub deep : ℕ → ℕ → List Fault
+deep depth l = fault_if (nat_lt 200 depth) l why.TooDeep
+
+abbrev pub unless_bound : ℕ → Option ℕ → List Fault
+unless_bound l None = fault l why.UnboundVar
+unless_bound l (Some level) = []
+
+-- the faults of what stands behind these bound names, at this depth
+abbrev pub Checked : Type 0
+Checked = List Sym → ℕ → List Fault
+
+abbrev pub each_faults : List Checked → Checked
+each_faults [] env depth = []
+each_faults (s ∷ ss) env depth = s env depth ++ each_faults ss env depth
+
+abbrev pub faults_step : ℕ → RawTerm-F Checked Checked → Checked
+faults_step free (layer.Var name k l) env depth = deep depth l ++ unless_bound l (level_of free env name k)
+faults_step free (layer.Op name ps subs l) env depth = deep depth l ++ too_many (λ p. p.left) 16 ps ++ each_faults subs env (depth + 1)
+
+abbrev pub faults_bound_step : RawBound-F Checked Checked → Checked
+faults_bound_step b env depth = too_many (λ b. b.left) 8 b.binders ++ b.body (env ++ names_of b.binders) depth
+
+-- the faults of a term where these names are bound behind so many free ones, at its depth: nodes at depth over 200, more than 16 parameters, more than 8 binders, and variables that aren't bound
+abbrev pub faults_of : ℕ → RawTerm → List Sym → ℕ → List Fault
+faults_of free = fold-RawTerm Checked Checked (faults_step free) faults_bound_step
+
+-- the faults of a subterm with its binders, at the depth of its body
+abbrev pub bound_faults_of : ℕ → RawBound → List Sym → ℕ → List Fault
+bound_faults_of free = fold-RawBound Checked Checked (faults_step free) faults_bound_step
+
+abbrev pub raw_size_step : RawTerm-F ℕ ℕ → ℕ
+raw_size_step (layer.Var name k l) = 1
+raw_size_step (layer.Op name ps subs l) = 1 + sum subs
+
+abbrev pub raw_size_bound_step : RawBound-F ℕ ℕ → ℕ
+raw_size_bound_step b = b.body
+
+-- the number of variables and operators
+abbrev pub raw_size_of : RawTerm → ℕ
+raw_size_of = fold-RawTerm ℕ ℕ raw_size_step raw_size_bound_step
+
+abbrev pub left_step : RawTerm-F ℕ ℕ → ℕ
+left_step (layer.Var name k l) = l
+left_step (layer.Op name ps subs l) = l
+
+-- how many words are left where the term begins
+abbrev pub left_of : RawTerm → ℕ
+left_of = fold-RawTerm ℕ ℕ left_step raw_size_bound_step
+
+-- the faults of a term by itself: those of its nodes, and more than 20,000 nodes
+abbrev pub term_faults : ℕ → RawTerm → List Fault
+term_faults free t = faults_of free t [] 1 ++ fault_if (nat_lt 20000 (raw_size_of t)) (left_of t) why.TooBig
+
+abbrev pub hyp_names : List RawHyp → List Sym
+hyp_names hs = map (λ h. h.name) hs
+
+-- the faults of hypotheses, each behind those before it
+abbrev pub hyps_faults : List RawHyp → List Sym → List Fault
+hyps_faults [] env = []
+hyps_faults (h ∷ hs) env = faults_of 0 h.term env 1 ++ hyps_faults hs (env ++ h.name ∷ [])
+
+-- the variables and operators of all hypotheses and the conclusion
+abbrev pub raw_sequent_size_of : RawSequent → ℕ
+raw_sequent_size_of s = sum_by (λ h. raw_size_of h.term) s.hyps + raw_size_of s.concl
+
+-- the faults of a sequent: more than 200 hypotheses, those of its terms, and more than 20,000 nodes
+abbrev pub sequent_faults : RawSequent → List Fault
+sequent_faults s =
+    too_many (λ h. h.left) 200 s.hyps ++ hyps_faults s.hyps [] ++ faults_of 0 s.concl (hyp_names s.hyps) 1
+    ++ fault_if (nat_lt 20000 (raw_sequent_size_of s)) s.left why.TooBig

@@ -1,0 +1,59 @@
+use mp_logic::{List, Sym};
+use mp_term::Param;
+
+/// A binder as it is written, and how many words are left where it stands, itself among them.
+#[derive(Clone, Copy, Debug, PartialEq, Eq)]
+pub struct Binder {
+    pub name: Sym,
+    pub left: u64,
+}
+
+/// A parameter as it is written, and how many words are left where it stands.
+#[derive(Clone, Copy, Debug, PartialEq, Eq)]
+pub struct RawParam {
+    pub value: Param,
+    pub left: u64,
+}
+
+/// A subterm as it is written, behind its binders.
+#[cycle(raw)]
+#[derive(Drop)]
+pub struct RawBound {
+    pub binders: List<Binder>,
+    pub body: RawTerm,
+}
+
+/// A term as it is written, with names in place of levels. Each node knows how many words are left where it
+/// begins.
+#[cycle(raw)]
+#[derive(Drop)]
+pub enum RawTerm {
+    /// A variable; `numbered` is `k` where its name is `x` followed by `k`, as in `Word::SmallVar`.
+    Var {
+        name: Sym,
+        numbered: Option<u32>,
+        left: u64,
+    },
+    Op {
+        name: Sym,
+        params: List<RawParam>,
+        subs: List<RawBound>,
+        left: u64,
+    },
+}
+
+/// A hypothesis as it is written, and how many words are left where its name stands.
+#[derive(Drop)]
+pub struct RawHyp {
+    pub name: Sym,
+    pub term: RawTerm,
+    pub left: u64,
+}
+
+/// A sequent as it is written, and how many words are left where it begins.
+#[derive(Drop)]
+pub struct RawSequent {
+    pub hyps: List<RawHyp>,
+    pub concl: RawTerm,
+    pub left: u64,
+}

@@ -1,0 +1,243 @@
+ghost use Rattle.std.specs.Prelude.{◌≡◌, ◌+◌, ◌++◌, ℕ, [], None, IfOk, OnOk, min, nat_lt, sum_by, slice_get};
+ghost use Rattle.mp_logic.specs.Trees.{counted};
+ghost use Rattle.mp_termtext.specs.declared.fail.TextWhy.TheVariants as why;
+ghost use Rattle.mp_termtext.specs.Faults.{fault_if, least, least_from, too_many};
+ghost use Rattle.mp_termtext.specs.Statics.{bound_faults_of, deep, faults_of, hyp_names, hyps_faults, left_of, level_of, raw_sequent_size_of, raw_size_of, sequent_faults, term_faults, unless_bound};
+
+use crate::fault::{behind, sooner_of};
+use crate::scope::{level_of, push_names};
+use crate::{Fault, RawBound, RawHyp, RawSequent, RawTerm, TextWhy};
+use mp_logic::{List, NoMemory, Sym};
+use std::alloc::Global;
+
+/// The depth that stands for all that are too great.
+const TOO_DEEP: u64 = 201;
+
+/// The most parameters of an operator.
+const MOST_PARAMS: u64 = 16;
+
+/// The most binders of a subterm.
+const MOST_BINDERS: u64 = 8;
+
+/// The most hypotheses of a sequent.
+const MOST_HYPS: usize = 200;
+
+/// The most variables and operators of a sequent, or of a term by itself.
+const MOST_NODES: u64 = 20000;
+
+/// The sooner one of the fault that is held and TooDeep, for a node at this depth or, at TOO_DEEP, a greater
+/// one.
+fn check_depth(held: Option<Fault>, depth: u64, left: u64) -> Option<Fault>
+    ensures { (d : ℕ) → min d TOO_DEEP ≡ depth → result ≡ least_from held (deep d left) }
+{
+    if depth == TOO_DEEP {
+        sooner_of(held, left, TextWhy::TooDeep)
+    } else {
+        held
+    }
+}
+
+// Behind a fault that is held no variable is looked up, so the time to look at a text with very many
+// hypotheses is still linear.
+#[tactic(auto, using(crate::proofs::Soonest::unbound_behind))]
+fn check_variable(
+    held: Option<Fault>,
+    free: u32,
+    env: &[Sym],
+    name: Sym,
+    numbered: Option<u32>,
+    left: u64,
+) -> Option<Fault>
+    ensures { result ≡ least_from held (unless_bound left (level_of free env.now name numbered)) }
+{
+    if behind(held, left) || level_of(free, env, name, numbered).is_some() {
+        held
+    } else {
+        sooner_of(held, left, TextWhy::UnboundVar)
+    }
+}
+
+#[cycle(checking)]
+#[tactic(auto, using(crate::proofs::Soonest::least_from_append))]
+fn check_in(
+    raw: &RawTerm,
+    free: u32,
+    env: &mut Vec<Sym>,
+    depth: u64,
+    held: Option<Fault>,
+) -> Result<Option<Fault>, NoMemory>
+    ensures fault { IfOk result (λ found. (d : ℕ) → min d TOO_DEEP ≡ depth → found ≡ least_from held (faults_of free raw.now env.old.items d)) }
+    ensures env { OnOk result (env.new.items ≡ env.old.items) }
+{
+    match raw {
+        RawTerm::Var {
+            name,
+            numbered,
+            left,
+        } => {
+            let held = check_depth(held, depth, *left);
+            Ok(check_variable(held, free, env.as_slice(), *name, *numbered, *left))
+        }
+        RawTerm::Op {
+            params,
+            subs,
+            left,
+            ..
+        } => {
+            let mut held = check_depth(held, depth, *left);
+            if let Some(param) = params.get(MOST_PARAMS) {
+                held = sooner_of(held, param.left, TextWhy::TooMany);
+            }
+            let inner = depth.saturating_add(1).min(TOO_DEEP);
+            for sub in subs.as_slice() {
+                held = check_bound(sub, free, env, inner, held)?;
+            }
+            Ok(held)
+        }
+    }
+}
+
+#[cycle(checking)]
+#[tactic(auto, using(crate::proofs::Soonest::least_from_append))]
+fn check_bound(
+    raw: &RawBound,
+    free: u32,
+    env: &mut Vec<Sym>,
+    depth: u64,
+    held: Option<Fault>,
+) -> Result<Option<Fault>, NoMemory>
+    ensures fault { IfOk result (λ found. (d : ℕ) → min d TOO_DEEP ≡ depth → found ≡ least_from held (bound_faults_of free raw.now env.old.items d)) }
+    ensures env { OnOk result (env.new.items ≡ env.old.items) }
+{
+    let held = match raw.binders.get(MOST_BINDERS) {
+        Some(binder) => sooner_of(held, binder.left, TextWhy::TooMany),
+        None => held,
+    };
+    let outer = env.len();
+    push_names(env, raw.binders.as_slice())?;
+    let found = check_in(&raw.body, free, env, depth, held)?;
+    env.truncate(outer);
+    Ok(found)
+}
+
+/// The number of variables and operators. The count stops at `2^64 - 1`.
+fn raw_size(raw: &RawTerm) -> u64
+    ensures { result ≡ counted (raw_size_of raw.now) }
+{
+    match raw {
+        RawTerm::Var { .. } => 1,
+        RawTerm::Op { subs, .. } => {
+            let mut total = 1u64;
+            for sub in subs.as_slice() {
+                total = total.saturating_add(raw_size(&sub.body));
+            }
+            total
+        }
+    }
+}
+
+/// How many words are left where the term begins.
+pub fn left_of(raw: &RawTerm) -> u64
+    ensures { result ≡ left_of raw.now }
+{
+    match raw {
+        RawTerm::Var { left, .. } => *left,
+        RawTerm::Op { left, .. } => *left,
+    }
+}
+
+/// The sooner one of the fault that is held and TooBig, for a whole of so many nodes.
+fn check_size(held: Option<Fault>, size: u64, left: u64) -> Option<Fault>
+    ensures { (n : ℕ) → counted n ≡ size → result ≡ least_from held (fault_if (nat_lt 20000 n) left why.TooBig) }
+{
+    if size > MOST_NODES {
+        sooner_of(held, left, TextWhy::TooBig)
+    } else {
+        held
+    }
+}
+
+/// The soonest of the fault that is held and those of a term that stands by itself: those of its nodes, where
+/// the names `env` are bound behind `free` free ones.
+pub fn check_term(
+    raw: &RawTerm,
+    free: u32,
+    env: &mut Vec<Sym>,
+    held: Option<Fault>,
+) -> Result<Option<Fault>, NoMemory>
+    ensures fault { IfOk result (λ found. found ≡ least_from held (faults_of free raw.now env.old.items 1)) }
+    ensures env { OnOk result (env.new.items ≡ env.old.items) }
+{
+    let found = check_in(raw, free, env, 1, held)?;
+    Ok(found)
+}
+
+/// The least static fault of a term that is all of a text, where so many names are free. None exactly where
+/// it has none.
+#[tactic(auto, using(crate::proofs::Soonest::least_from_append))]
+pub fn term_fault(alloc: Global, raw: &RawTerm, free: u32) -> Result<Option<Fault>, NoMemory>
+    ensures { IfOk result (λ found. found ≡ least (term_faults free raw.now)) }
+{
+    let mut env = Vec::new(alloc);
+    let held = check_in(raw, free, &mut env, 1, None)?;
+    Ok(check_size(held, raw_size(raw), left_of(raw)))
+}
+
+fn hyps_size(hyps: &[RawHyp]) -> u64
+    ensures { result ≡ counted (sum_by (λ h. raw_size_of h.term) hyps.now) }
+{
+    let mut total = 0u64;
+    for hyp in hyps {
+        total = total.saturating_add(raw_size(&hyp.term));
+    }
+    total
+}
+
+/// The soonest of the fault that is held and those of the hypotheses, each behind those before it, whose
+/// names `env` has at the end.
+fn check_hyps(
+    hyps: &[RawHyp],
+    env: &mut Vec<Sym>,
+    held: Option<Fault>,
+) -> Result<Option<Fault>, NoMemory>
+    requires { env.old.items ≡ [] }
+    ensures fault { IfOk result (λ found. found ≡ least_from held (hyps_faults hyps.now [])) }
+    ensures env { OnOk result (env.new.items ≡ hyp_names hyps.now) }
+{
+    let mut held = held;
+    for hyp in hyps {
+        held = check_in(&hyp.term, 0, env, 1, held)?;
+        if env.push(hyp.name).is_err() {
+            return Err(NoMemory);
+        }
+    }
+    Ok(held)
+}
+
+/// The sooner one of the fault that is held and TooMany, at the first hypothesis that is one too many.
+fn check_count(hyps: &[RawHyp], held: Option<Fault>) -> Option<Fault>
+    ensures { result ≡ least_from held (too_many (λ h. h.left) 200 hyps.now) }
+{
+    match hyps.get(MOST_HYPS) {
+        Some(hyp) => sooner_of(held, hyp.left, TextWhy::TooMany),
+        None => held,
+    }
+}
+
+/// The soonest of the fault that is held and those of a sequent: more than 200 hypotheses, the faults of its
+/// terms, and more than 20,000 nodes.
+#[tactic(auto, using(crate::proofs::Soonest::least_from_append))]
+pub fn check_sequent(
+    alloc: Global,
+    raw: &RawSequent,
+    held: Option<Fault>,
+) -> Result<Option<Fault>, NoMemory>
+    ensures { IfOk result (λ found. found ≡ least_from held (sequent_faults raw.now)) }
+{
+    let held = check_count(raw.hyps.as_slice(), held);
+    let mut env = Vec::new(alloc);
+    let held = check_hyps(raw.hyps.as_slice(), &mut env, held)?;
+    let held = check_in(&raw.concl, 0, &mut env, 1, held)?;
+    let size = hyps_size(raw.hyps.as_slice()).saturating_add(raw_size(&raw.concl));
+    Ok(check_size(held, size, raw.left))
+}

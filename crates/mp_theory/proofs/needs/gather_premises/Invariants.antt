@@ -1,0 +1,6 @@
+use Rattle.std.proofs.Common.{◌≡◌, map, drop}
+use Rattle.mp_theory.specs.Needs.{first_uses, all_uses, schema_uses}
+use Rattle.mp_theory.proofs.needs.gather_premises.Given as goal
+
+abbrev pub invariant-loop-premise : goal.invariant-loop-premise
+invariant-loop-premise l = first_uses l.skip l.held (all_uses (map schema_uses (drop l.premise-index l.premises))) ≡ first_uses l.skip l.fn.held (all_uses (map schema_uses l.premises))

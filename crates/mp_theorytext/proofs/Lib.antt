@@ -1,0 +1,13 @@
+pub mod Agreeing
+pub mod Consistent
+pub mod FaultWalks
+pub mod Faultlessness
+pub mod HoleSteps
+pub mod InRange
+pub mod Keeping
+pub mod OneReading
+pub mod RawInduction
+pub mod RawLayers
+pub mod RulesMade
+pub mod SizesAndHoles
+pub mod UseSteps

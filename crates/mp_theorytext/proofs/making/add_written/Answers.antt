@@ -1,0 +1,9 @@
+use Rattle.std.proofs.Common.{ap, ◌∙◌, map}
+use Rattle.mp_theorytext.specs.Values.{schema_of}
+use Rattle.mp_theorytext.proofs.RulesMade.{no_schema_fault}
+use Rattle.mp_theorytext.proofs.making.add_written.Goals as goal
+
+pub unreachable-requires-in-Err-Schema : goal.unreachable-requires-in-Err-Schema
+unreachable-requires-in-Err-Schema c =
+    no_schema_fault c.args.raw.now c.args.theory.now c.in_ok-premises.premises c.in_ok-concl.concl c.in-Err-Schema.field-0 c.in-Err-Schema.field-0-0 c.requires.faultless c.requires.free
+    (c.in_ok-premises.ensures ∙ ap (map schema_of) c.as_slice.ensures) c.in_ok-concl.ensures c.in-Err-Schema.field-0-is c.in-Err-Schema.ensures.refusal

@@ -1,0 +1,8 @@
+pub mod Grammar
+pub mod Laws
+pub mod Places
+pub mod Reading
+pub mod Scopes
+pub mod Statics
+pub mod Uses
+pub mod Values

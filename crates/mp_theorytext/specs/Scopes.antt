@@ -1,0 +1,35 @@
+-- What stands before a part of a schema as it is written: the names that are bound, and the contexts.
+use Rattle.std.specs.Prelude.{ℕ, ◌++◌, List, [], ◌∷◌, map, Option, None}
+use Rattle.mp_logic.specs.declared.sym.Sym.{Sym}
+use Rattle.mp_termtext.specs.Statics.{level_of}
+use Rattle.mp_theorytext.specs.declared.raw.RawName.{RawName}
+use Rattle.mp_theorytext.specs.declared.raw.RawItem.{RawItem}
+use Rattle.mp_theorytext.specs.declared.raw.RawItem.TheVariants as item
+
+-- the level that a variable means where these names are bound: the place of the last one that is its name
+abbrev pub level_in : List Sym → Sym → Option ℕ
+level_in env name = level_of 0 env name None
+
+-- the names without their places
+abbrev pub names_in : List RawName → List Sym
+names_in ns = map (λ n. n.name) ns
+
+-- the bound names behind an item
+abbrev pub env_past : RawItem → List Sym → List Sym
+env_past (item.Ctx name ctxs args left) env = env
+env_past (item.Hyp name pattern left) env = env ++ name ∷ []
+
+-- the bound names behind all items
+abbrev pub env_behind : List RawItem → List Sym → List Sym
+env_behind [] env = env
+env_behind (i ∷ is) env = env_behind is (env_past i env)
+
+-- the contexts behind an item
+abbrev pub contexts_past : RawItem → List Sym → List Sym
+contexts_past (item.Ctx name ctxs args left) known = known ++ name.name ∷ []
+contexts_past (item.Hyp name pattern left) known = known
+
+-- the contexts behind all items
+abbrev pub contexts_behind : List RawItem → List Sym → List Sym
+contexts_behind [] known = known
+contexts_behind (i ∷ is) known = contexts_behind is (contexts_past i known)

@@ -1,0 +1,70 @@
+-- What patterns, schemata and rules stand for that are written.
+use Rattle.std.specs.Prelude.{ℕ, ◌++◌, List, [], ◌∷◌, length, map, min, unwrap_or}
+use Rattle.mp_logic.specs.declared.sym.Sym.{Sym}
+use Rattle.mp_schema.specs.declared.pattern.Pattern.{Pattern, Var, Op, Meta}
+use Rattle.mp_schema.specs.declared.pattern.PBound.{PBound}
+use Rattle.mp_schema.specs.declared.schema.Item.{Item}
+use Rattle.mp_schema.specs.declared.schema.Item.TheVariants.{Ctx, Hyp}
+use Rattle.mp_schema.specs.declared.schema.Schema.{Schema}
+use Rattle.mp_theory.specs.declared.rule.Rule.{Rule}
+use Rattle.mp_theory.specs.Tables.{rule_of}
+use Rattle.mp_termtext.specs.Statics.{names_of}
+use Rattle.mp_theorytext.specs.declared.raw.RawPatternBound.{RawPatternBound, RawPatternBound-F, fold-RawPatternBound}
+use Rattle.mp_theorytext.specs.declared.raw.RawPattern.{RawPattern, RawPattern-F}
+use Rattle.mp_theorytext.specs.declared.raw.RawPattern.TheOpen as layer
+use Rattle.mp_theorytext.specs.declared.raw.RawPattern.TheFolds.{fold-RawPattern}
+use Rattle.mp_theorytext.specs.declared.raw.RawItem.{RawItem}
+use Rattle.mp_theorytext.specs.declared.raw.RawItem.TheVariants as item
+use Rattle.mp_theorytext.specs.declared.raw.RawSchema.{RawSchema}
+use Rattle.mp_theorytext.specs.declared.raw.RawRule.{RawRule}
+use Rattle.mp_theorytext.specs.Scopes.{level_in, names_in, env_past, env_behind}
+
+-- numbers of 32 bits: a greater one is counted as the greatest, and no rule that keeps the static rules has one
+abbrev pub in_32_bits : ℕ → ℕ
+in_32_bits n = min n 4294967295
+
+-- what something stands for where these names are bound
+abbrev pub Valued : Type 0 → Type 0
+Valued X = List Sym → X
+
+abbrev pub each_value : {X : Type 0} → List (Valued X) → Valued (List X)
+each_value [] env = []
+each_value (x ∷ xs) env = x env ∷ each_value xs env
+
+abbrev pub value_step : RawPattern-F (Valued Pattern) (Valued PBound) → Valued Pattern
+value_step (layer.Var name left) env = Var (in_32_bits (unwrap_or (level_in env name) 0))
+value_step (layer.Op name params subs left) env = Op name (map (λ p. p.value) params) (each_value subs env)
+value_step (layer.Meta name ctxs args left) env = Meta name (names_in ctxs) (each_value args env)
+
+abbrev pub value_bound_step : RawPatternBound-F (Valued Pattern) (Valued PBound) → Valued PBound
+value_bound_step b env = record { binders = in_32_bits (length b.binders); body = b.body (env ++ names_of b.binders) }
+
+-- the pattern that is written
+abbrev pub pattern_of : RawPattern → Valued Pattern
+pattern_of = fold-RawPattern (Valued Pattern) (Valued PBound) value_step value_bound_step
+
+-- the subterm that is written, with the number of its binders
+abbrev pub bound_of : RawPatternBound → Valued PBound
+bound_of = fold-RawPatternBound (Valued Pattern) (Valued PBound) value_step value_bound_step
+
+-- the item that is written
+abbrev pub item_of : RawItem → Valued Item
+item_of (item.Ctx name ctxs args left) env = Ctx name.name (names_in ctxs) (each_value (map pattern_of args) env)
+item_of (item.Hyp name pattern left) env = Hyp (pattern_of pattern env)
+
+-- the items that are written, each behind those before it
+abbrev pub items_of : List RawItem → Valued (List Item)
+items_of [] env = []
+items_of (i ∷ is) env = item_of i env ∷ items_of is (env_past i env)
+
+-- the schema that is written
+abbrev pub schema_of : RawSchema → Schema
+schema_of s = record { items = items_of s.items []; concl = pattern_of s.concl (env_behind s.items []) }
+
+-- the rule that is written
+abbrev pub written_rule : RawRule → Rule
+written_rule r = rule_of r.name.name (map schema_of r.premises) (schema_of r.concl)
+
+-- the rules that are written, in the order of the text
+abbrev pub rules_of : List RawRule → List Rule
+rules_of rs = map written_rule rs

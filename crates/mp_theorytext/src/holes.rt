@@ -1,0 +1,110 @@
+ghost use Rattle.std.specs.Prelude.{◌≡◌, ◌++◌, OnOk, map};
+ghost use Rattle.std.specs.List.{flat_map};
+ghost use Rattle.mp_termtext.specs.Faults.{least_from};
+ghost use Rattle.mp_theorytext.specs.Scopes.{names_in};
+ghost use Rattle.mp_theorytext.specs.Uses.{hole_faults, holes_in_param, raw_holes, raw_bound_holes, raw_item_holes, raw_schema_holes};
+
+use crate::raw::{RawItem, RawName, RawParamPat, RawPattern, RawPatternBound, RawSchema};
+use crate::scope::has_raw_name;
+use mp_logic::{List, NoMemory};
+use mp_schema::ParamPat;
+use mp_termtext::{Fault, TextWhy, behind, sooner_of};
+
+/// Appends the holes of schemata, in the order of the text.
+pub(crate) fn gather_schemata(raws: &[RawSchema], holes: &mut List<RawName>) -> Result<(), NoMemory>
+    ensures { OnOk result (holes.new ≡ holes.old ++ flat_map raw_schema_holes raws.now) }
+{
+    for raw in raws {
+        gather_schema(raw, holes)?;
+    }
+    Ok(())
+}
+
+/// Appends the holes of a schema.
+pub(crate) fn gather_schema(raw: &RawSchema, holes: &mut List<RawName>) -> Result<(), NoMemory>
+    ensures { OnOk result (holes.new ≡ holes.old ++ raw_schema_holes raw.now) }
+{
+    for item in raw.items.as_slice() {
+        gather_item(item, holes)?;
+    }
+    gather_pattern(&raw.concl, holes)
+}
+
+fn gather_item(raw: &RawItem, holes: &mut List<RawName>) -> Result<(), NoMemory>
+    ensures { OnOk result (holes.new ≡ holes.old ++ raw_item_holes raw.now) }
+{
+    match raw {
+        RawItem::Hyp { pattern, .. } => gather_pattern(pattern, holes),
+        RawItem::Ctx { args, .. } => gather_arguments(args.as_slice(), holes),
+    }
+}
+
+#[cycle(gathering)]
+fn gather_pattern(raw: &RawPattern, holes: &mut List<RawName>) -> Result<(), NoMemory>
+    ensures { OnOk result (holes.new ≡ holes.old ++ raw_holes raw.now) }
+{
+    match raw {
+        RawPattern::Var { .. } => Ok(()),
+        RawPattern::Op { params, subs, .. } => {
+            gather_params(params.as_slice(), holes)?;
+            gather_bounds(subs.as_slice(), holes)?;
+            Ok(())
+        }
+        RawPattern::Meta { args, .. } => {
+            gather_arguments(args.as_slice(), holes)?;
+            Ok(())
+        }
+    }
+}
+
+#[cycle(gathering)]
+fn gather_bounds(subs: &[RawPatternBound], holes: &mut List<RawName>) -> Result<(), NoMemory>
+    ensures { OnOk result (holes.new ≡ holes.old ++ flat_map raw_bound_holes subs.now) }
+{
+    for sub in subs {
+        gather_pattern(&sub.body, holes)?;
+    }
+    Ok(())
+}
+
+#[cycle(gathering)]
+fn gather_arguments(args: &[RawPattern], holes: &mut List<RawName>) -> Result<(), NoMemory>
+    ensures { OnOk result (holes.new ≡ holes.old ++ flat_map raw_holes args.now) }
+{
+    for arg in args {
+        gather_pattern(arg, holes)?;
+    }
+    Ok(())
+}
+
+fn gather_params(params: &[RawParamPat], holes: &mut List<RawName>) -> Result<(), NoMemory>
+    ensures { OnOk result (holes.new ≡ holes.old ++ flat_map holes_in_param params.now) }
+{
+    for param in params {
+        if let ParamPat::Hole(name) = param.value {
+            let left = param.left.saturating_sub(1);
+            if let Err((_, refused)) = holes.push(RawName { name, left }) {
+                return Err(refused);
+            }
+        }
+    }
+    Ok(())
+}
+
+/// The soonest of the fault that is held and those of holes that aren't among the known ones. Behind a fault that
+/// is held no name is looked for.
+pub(crate) fn check_holes(
+    held: Option<Fault>,
+    known: &[RawName],
+    holes: &[RawName],
+) -> Option<Fault>
+    ensures { result ≡ least_from held (hole_faults (names_in known.now) holes.now) }
+{
+    let mut held = held;
+    for hole in holes {
+        if !behind(held, hole.left) && !has_raw_name(known, hole.name) {
+            held = sooner_of(held, hole.left, TextWhy::UnboundParam);
+        }
+    }
+    held
+}

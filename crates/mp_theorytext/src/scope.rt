@@ -1,0 +1,28 @@
+ghost use Rattle.std.specs.Prelude.{◌≡◌};
+ghost use Rattle.mp_schema.specs.Conditions.{has};
+ghost use Rattle.mp_theorytext.specs.Scopes.{names_in};
+
+use crate::raw::RawName;
+use mp_logic::Sym;
+
+pub(crate) fn has_name(names: &[Sym], name: Sym) -> bool
+    ensures { result ≡ has names.now name }
+{
+    for other in names {
+        if other.0 == name.0 {
+            return true;
+        }
+    }
+    false
+}
+
+pub(crate) fn has_raw_name(names: &[RawName], name: Sym) -> bool
+    ensures { result ≡ has (names_in names.now) name }
+{
+    for other in names {
+        if other.name.0 == name.0 {
+            return true;
+        }
+    }
+    false
+}

@@ -1,0 +1,314 @@
+ghost use Rattle.std.specs.Prelude.{◌≡◌, ◌++◌, [], length, map, not, OnOk, IfOk, if◌then◌else◌};
+ghost use Rattle.std.specs.List.{flat_map};
+ghost use Rattle.std.specs.Option.{option_copied};
+ghost use Rattle.mp_schema.specs.Conditions.{has};
+ghost use Rattle.mp_schema.specs.Faults.{same_names};
+ghost use Rattle.mp_termtext.specs.declared.fail.TextWhy.TheVariants as why;
+ghost use Rattle.mp_termtext.specs.Faults.{fault_if, least_from, too_many};
+ghost use Rattle.mp_theorytext.specs.Scopes.{names_in};
+ghost use Rattle.mp_theorytext.specs.Places.{use_at};
+ghost use Rattle.mp_theorytext.specs.Uses.{argument_of, argument_faults, variable_name, unless_new, list_faults, find_first, first_of, firsts_after, firsts_with, is_like, unless_like, use_faults, uses_faults, uses_in, uses_in_bound, shown};
+
+use crate::raw::{RawName, RawPattern, RawPatternBound};
+use crate::scope::{has_name, has_raw_name};
+use crate::value::copy_names;
+use mp_logic::{List, NoMemory, Sym};
+use mp_termtext::{Fault, TextWhy, behind, sooner_of};
+use std::alloc::Global;
+
+/// The most contexts, and the most arguments, in one list.
+const MOST: usize = 8;
+
+/// The first use of a name in a rule.
+#[derive(Drop)]
+pub(crate) struct First {
+    /// Whether it is a context.
+    pub is_context: bool,
+    /// The name.
+    pub name: Sym,
+    /// Its list of contexts.
+    pub ctxs: List<Sym>,
+    /// The number of its arguments.
+    pub arity: u64,
+}
+
+/// A place where a second-order variable stands, or a context as an item.
+#[derive(Clone, Copy)]
+pub(crate) struct Place<'a> {
+    /// Whether it is a context.
+    pub is_context: bool,
+    /// The name.
+    pub name: Sym,
+    /// How many words are left at the name.
+    pub left: u64,
+    /// Its list of contexts.
+    pub ctxs: &'a [RawName],
+    /// Its arguments.
+    pub args: &'a [RawPattern],
+}
+
+/// How many words are left where the pattern begins.
+pub(crate) fn left_of(raw: &RawPattern) -> u64
+    ensures { result ≡ (argument_of raw.now).left }
+{
+    match raw {
+        RawPattern::Var { left, .. } => *left,
+        RawPattern::Op { left, .. } => *left,
+        RawPattern::Meta { left, .. } => *left,
+    }
+}
+
+// Behind a fault that is held no name is looked for.
+fn check_context(
+    held: Option<Fault>,
+    known: &[Sym],
+    earlier: &[RawName],
+    ctx: RawName,
+) -> Option<Fault>
+    ensures { result ≡ least_from held (fault_if (not (has known.now ctx.name)) ctx.left why.DanglingContext ++ fault_if (has (names_in earlier.now) ctx.name) ctx.left why.TwiceContext) }
+{
+    if behind(held, ctx.left) {
+        return held;
+    }
+    let mut held = held;
+    if !has_name(known, ctx.name) {
+        held = sooner_of(held, ctx.left, TextWhy::DanglingContext);
+    }
+    if has_raw_name(earlier, ctx.name) {
+        held = sooner_of(held, ctx.left, TextWhy::TwiceContext);
+    }
+    held
+}
+
+fn check_list(held: Option<Fault>, known: &[Sym], ctxs: &[RawName]) -> Option<Fault>
+    ensures { result ≡ least_from held (list_faults known.now [] ctxs.now) }
+{
+    let mut held = held;
+    for (i, ctx) in ctxs.iter().enumerate() {
+        held = check_context(held, known, &ctxs[..i], *ctx);
+    }
+    held
+}
+
+fn has_variable(args: &[RawPattern], name: Sym) -> bool
+    ensures { result ≡ has (flat_map variable_name (map argument_of args.now)) name }
+{
+    for arg in args {
+        if let RawPattern::Var { name: other, .. } = arg
+            && other.0 == name.0
+        {
+            return true;
+        }
+    }
+    false
+}
+
+// Behind a fault that is held no variable is looked for.
+fn check_argument(held: Option<Fault>, earlier: &[RawPattern], arg: &RawPattern) -> Option<Fault>
+    ensures { result ≡ least_from held (unless_new (flat_map variable_name (map argument_of earlier.now)) (argument_of arg.now).left (argument_of arg.now).variable) }
+{
+    match arg {
+        RawPattern::Var { name, left } => {
+            if behind(held, *left) || !has_variable(earlier, *name) {
+                held
+            } else {
+                sooner_of(held, *left, TextWhy::NotAPattern)
+            }
+        }
+        RawPattern::Op { left, .. } => sooner_of(held, *left, TextWhy::NotAPattern),
+        RawPattern::Meta { left, .. } => sooner_of(held, *left, TextWhy::NotAPattern),
+    }
+}
+
+// In the conclusion of a rule the arguments have to be distinct variables.
+fn check_arguments(held: Option<Fault>, in_conclusion: bool, args: &[RawPattern]) -> Option<Fault>
+    ensures { result ≡ least_from held (if in_conclusion then argument_faults [] (map argument_of args.now) else []) }
+{
+    if !in_conclusion {
+        return held;
+    }
+    let mut held = held;
+    for (i, arg) in args.iter().enumerate() {
+        held = check_argument(held, &args[..i], arg);
+    }
+    held
+}
+
+fn check_counts(held: Option<Fault>, ctxs: &[RawName], args: &[RawPattern]) -> Option<Fault>
+    ensures { result ≡ least_from held (too_many (λ c. c.left) 8 ctxs.now ++ too_many (λ a. a.left) 8 (map argument_of args.now)) }
+{
+    let mut held = held;
+    if let Some(ctx) = ctxs.get(MOST) {
+        held = sooner_of(held, ctx.left, TextWhy::TooMany);
+    }
+    if let Some(arg) = args.get(MOST) {
+        held = sooner_of(held, left_of(arg), TextWhy::TooMany);
+    }
+    held
+}
+
+fn find(firsts: &List<First>, name: Sym) -> Option<&First>
+    ensures { option_copied result ≡ find_first firsts.now name }
+{
+    for first in firsts.as_slice() {
+        if first.name.0 == name.0 {
+            return Some(first);
+        }
+    }
+    None
+}
+
+fn are_same_names(names: &[Sym], raws: &[RawName]) -> bool
+    ensures { result ≡ same_names names.now (names_in raws.now) }
+{
+    if names.len() != raws.len() {
+        return false;
+    }
+    for (i, name) in names.iter().enumerate() {
+        if name.0 != raws[i].name.0 {
+            return false;
+        }
+    }
+    true
+}
+
+fn check_first(held: Option<Fault>, firsts: &List<First>, place: Place<'_>) -> Option<Fault>
+    ensures { (known : _) → (final : _) → result ≡ least_from held (unless_like (find_first firsts.now place.entry.name) (use_at place.entry known final)) }
+{
+    let Some(first) = find(firsts, place.name) else {
+        return held;
+    };
+    if first.is_context == place.is_context
+        && are_same_names(first.ctxs.as_slice(), place.ctxs)
+        && first.arity == place.args.len() as u64
+    {
+        held
+    } else {
+        sooner_of(held, place.left, TextWhy::BadUse)
+    }
+}
+
+/// Keeps the use where it is the first one of its name.
+fn keep_first(alloc: Global, firsts: &mut List<First>, place: Place<'_>) -> Result<(), NoMemory>
+    ensures { OnOk result ((known : _) → (final : _) → firsts.new ≡ firsts_with firsts.old (use_at place.entry known final)) }
+{
+    if find(firsts, place.name).is_some() {
+        return Ok(());
+    }
+    let ctxs = copy_names(alloc, place.ctxs)?;
+    let first = First {
+        is_context: place.is_context,
+        name: place.name,
+        ctxs,
+        arity: place.args.len() as u64,
+    };
+    match firsts.push(first) {
+        Ok(()) => Ok(()),
+        Err((_, refused)) => Err(refused),
+    }
+}
+
+/// The soonest of the fault that is held and those of a use, where `known` are the contexts before it and
+/// `firsts` the first uses of names before it.
+pub(crate) fn check_use(
+    alloc: Global,
+    place: Place<'_>,
+    known: &[Sym],
+    in_conclusion: bool,
+    firsts: &mut List<First>,
+    held: Option<Fault>,
+) -> Result<Option<Fault>, NoMemory>
+    ensures fault { IfOk result (λ found. found ≡ least_from held (use_faults firsts.old (use_at place.entry known.now in_conclusion))) }
+    ensures firsts { OnOk result (firsts.new ≡ firsts_with firsts.old (use_at place.entry known.now in_conclusion)) }
+{
+    let held = check_counts(held, place.ctxs, place.args);
+    let held = check_list(held, known, place.ctxs);
+    let held = check_arguments(held, in_conclusion, place.args);
+    let held = check_first(held, firsts, place);
+    keep_first(alloc, firsts, place)?;
+    Ok(held)
+}
+
+/// The soonest of the fault that is held and those of the uses in the pattern.
+#[cycle(using)]
+pub(crate) fn check_uses(
+    alloc: Global,
+    raw: &RawPattern,
+    known: &[Sym],
+    in_conclusion: bool,
+    firsts: &mut List<First>,
+    held: Option<Fault>,
+) -> Result<Option<Fault>, NoMemory>
+    ensures fault { IfOk result (λ found. found ≡ least_from held (uses_faults firsts.old (uses_in raw.now known.now in_conclusion))) }
+    ensures firsts { OnOk result (firsts.new ≡ firsts_after firsts.old (uses_in raw.now known.now in_conclusion)) }
+{
+    match raw {
+        RawPattern::Var { .. } => Ok(held),
+        RawPattern::Op { subs, .. } => {
+            check_bound_uses(alloc, subs.as_slice(), known, in_conclusion, firsts, held)
+        }
+        RawPattern::Meta {
+            name,
+            ctxs,
+            args,
+            left,
+        } => {
+            let place = Place {
+                is_context: false,
+                name: *name,
+                left: *left,
+                ctxs: ctxs.as_slice(),
+                args: args.as_slice(),
+            };
+            let held = check_use(alloc, place, known, in_conclusion, firsts, held)?;
+            let found = check_argument_uses(
+                alloc,
+                args.as_slice(),
+                known,
+                in_conclusion,
+                firsts,
+                held,
+            )?;
+            Ok(found)
+        }
+    }
+}
+
+#[cycle(using)]
+fn check_bound_uses(
+    alloc: Global,
+    subs: &[RawPatternBound],
+    known: &[Sym],
+    in_conclusion: bool,
+    firsts: &mut List<First>,
+    held: Option<Fault>,
+) -> Result<Option<Fault>, NoMemory>
+    ensures fault { IfOk result (λ found. found ≡ least_from held (uses_faults firsts.old (flat_map (λ us. us known.now in_conclusion) (map uses_in_bound subs.now)))) }
+    ensures firsts { OnOk result (firsts.new ≡ firsts_after firsts.old (flat_map (λ us. us known.now in_conclusion) (map uses_in_bound subs.now))) }
+{
+    let mut held = held;
+    for sub in subs {
+        held = check_uses(alloc, &sub.body, known, in_conclusion, firsts, held)?;
+    }
+    Ok(held)
+}
+
+/// The soonest of the fault that is held and those of the uses in the arguments.
+#[cycle(using)]
+pub(crate) fn check_argument_uses(
+    alloc: Global,
+    args: &[RawPattern],
+    known: &[Sym],
+    in_conclusion: bool,
+    firsts: &mut List<First>,
+    held: Option<Fault>,
+) -> Result<Option<Fault>, NoMemory>
+    ensures fault { IfOk result (λ found. found ≡ least_from held (uses_faults firsts.old (flat_map (λ a. a.uses known.now in_conclusion) (map shown args.now)))) }
+    ensures firsts { OnOk result (firsts.new ≡ firsts_after firsts.old (flat_map (λ a. a.uses known.now in_conclusion) (map shown args.now))) }
+{
+    let mut held = held;
+    for arg in args {
+        held = check_uses(alloc, arg, known, in_conclusion, firsts, held)?;
+    }
+    Ok(held)
+}

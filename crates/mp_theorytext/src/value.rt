@@ -1,0 +1,201 @@
+ghost use Rattle.std.specs.Prelude.{◌≡◌, ◌++◌, ◌∷◌, [], IfOk, OnOk, map, min, unwrap_or};
+ghost use Rattle.mp_theorytext.specs.Scopes.{level_in, names_in, env_past, env_behind};
+ghost use Rattle.mp_theorytext.specs.Values.{in_32_bits, each_value, pattern_of, bound_of, item_of, items_of, schema_of};
+
+use crate::raw::{RawItem, RawName, RawParamPat, RawPattern, RawPatternBound, RawSchema};
+use mp_logic::{List, NoMemory, Sym};
+use mp_schema::{Item, PBound, ParamPat, Pattern, Schema};
+use mp_termtext::{level_of, push_names};
+use std::alloc::Global;
+
+// No number of a rule that keeps the static rules is greater.
+const GREATEST: u64 = 4294967295;
+
+fn level(env: &[Sym], name: Sym) -> u32
+    ensures { result ≡ in_32_bits (unwrap_or (level_in env.now name) 0) }
+{
+    level_of(0, env, name, None).unwrap_or(0).min(GREATEST) as u32
+}
+
+fn build_params(alloc: Global, params: &List<RawParamPat>) -> Result<List<ParamPat>, NoMemory>
+    ensures { IfOk result (λ values. values ≡ map (λ p. p.value) params.now) }
+{
+    let mut values = List::with_capacity(alloc, params.len())?;
+    for param in params.as_slice() {
+        if let Err((_, refused)) = values.push(param.value) {
+            return Err(refused);
+        }
+    }
+    Ok(values)
+}
+
+pub(crate) fn copy_names(alloc: Global, names: &[RawName]) -> Result<List<Sym>, NoMemory>
+    ensures { IfOk result (λ copied. copied ≡ names_in names.now) }
+{
+    let mut copied = List::with_capacity(alloc, names.len() as u64)?;
+    for name in names {
+        if let Err((_, refused)) = copied.push(name.name) {
+            return Err(refused);
+        }
+    }
+    Ok(copied)
+}
+
+/// The pattern that is written, where the names `env` are bound.
+#[cycle(building)]
+fn build_pattern(alloc: Global, raw: &RawPattern, env: &mut Vec<Sym>) -> Result<Pattern, NoMemory>
+    ensures value { IfOk result (λ p. p ≡ pattern_of raw.now env.old.items) }
+    ensures env { OnOk result (env.new.items ≡ env.old.items) }
+{
+    match raw {
+        RawPattern::Var { name, .. } => Ok(Pattern::Var(level(env.as_slice(), *name))),
+        RawPattern::Op {
+            name,
+            params,
+            subs,
+            ..
+        } => {
+            let params = build_params(alloc, params)?;
+            let subs = build_bounds(alloc, subs.as_slice(), env)?;
+            Ok(Pattern::Op {
+                op: *name,
+                params,
+                subs,
+            })
+        }
+        RawPattern::Meta {
+            name,
+            ctxs,
+            args,
+            ..
+        } => {
+            let ctxs = copy_names(alloc, ctxs.as_slice())?;
+            let args = build_args(alloc, args.as_slice(), env)?;
+            Ok(Pattern::Meta {
+                name: *name,
+                ctxs,
+                args,
+            })
+        }
+    }
+}
+
+#[cycle(building)]
+fn build_bounds(
+    alloc: Global,
+    subs: &[RawPatternBound],
+    env: &mut Vec<Sym>,
+) -> Result<List<PBound>, NoMemory>
+    ensures value { IfOk result (λ bs. bs ≡ each_value (map bound_of subs.now) env.old.items) }
+    ensures env { OnOk result (env.new.items ≡ env.old.items) }
+{
+    let mut built = List::with_capacity(alloc, subs.len() as u64)?;
+    for sub in subs {
+        let bound = build_bound(alloc, sub, env)?;
+        if let Err((_, refused)) = built.push(bound) {
+            return Err(refused);
+        }
+    }
+    Ok(built)
+}
+
+#[cycle(building)]
+fn build_bound(alloc: Global, raw: &RawPatternBound, env: &mut Vec<Sym>) -> Result<PBound, NoMemory>
+    ensures value { IfOk result (λ b. b ≡ bound_of raw.now env.old.items) }
+    ensures env { OnOk result (env.new.items ≡ env.old.items) }
+{
+    let outer = env.len();
+    let binders = raw.binders.len().min(GREATEST) as u32;
+    push_names(env, raw.binders.as_slice())?;
+    let body = build_pattern(alloc, &raw.body, env)?;
+    env.truncate(outer);
+    Ok(PBound { binders, body })
+}
+
+/// The arguments that are written, where the names `env` are bound.
+#[cycle(building)]
+fn build_args(
+    alloc: Global,
+    args: &[RawPattern],
+    env: &mut Vec<Sym>,
+) -> Result<List<Pattern>, NoMemory>
+    ensures value { IfOk result (λ ps. ps ≡ each_value (map pattern_of args.now) env.old.items) }
+    ensures env { OnOk result (env.new.items ≡ env.old.items) }
+{
+    let mut built = List::with_capacity(alloc, args.len() as u64)?;
+    for arg in args {
+        let pattern = build_pattern(alloc, arg, env)?;
+        if let Err((_, refused)) = built.push(pattern) {
+            return Err(refused);
+        }
+    }
+    Ok(built)
+}
+
+/// The item that is written; the name of a hypothesis is bound behind it.
+fn build_item(alloc: Global, raw: &RawItem, env: &mut Vec<Sym>) -> Result<Item, NoMemory>
+    ensures value { IfOk result (λ i. i ≡ item_of raw.now env.old.items) }
+    ensures env { OnOk result (env.new.items ≡ env_past raw.now env.old.items) }
+{
+    match raw {
+        RawItem::Ctx {
+            name,
+            ctxs,
+            args,
+            ..
+        } => {
+            let ctxs = copy_names(alloc, ctxs.as_slice())?;
+            let args = build_args(alloc, args.as_slice(), env)?;
+            Ok(Item::Ctx {
+                name: name.name,
+                ctxs,
+                args,
+            })
+        }
+        RawItem::Hyp { name, pattern, .. } => {
+            let pattern = build_pattern(alloc, pattern, env)?;
+            if env.push(*name).is_err() {
+                return Err(NoMemory);
+            }
+            Ok(Item::Hyp(pattern))
+        }
+    }
+}
+
+fn build_items(alloc: Global, items: &[RawItem], env: &mut Vec<Sym>) -> Result<List<Item>, NoMemory>
+    ensures value { IfOk result (λ is. is ≡ items_of items.now env.old.items) }
+    ensures env { OnOk result (env.new.items ≡ env_behind items.now env.old.items) }
+{
+    let mut built = List::with_capacity(alloc, items.len() as u64)?;
+    for raw in items {
+        let item = build_item(alloc, raw, env)?;
+        if let Err((_, refused)) = built.push(item) {
+            return Err(refused);
+        }
+    }
+    Ok(built)
+}
+
+/// The schema that is written.
+pub fn build_schema(alloc: Global, raw: &RawSchema) -> Result<Schema, NoMemory>
+    ensures { IfOk result (λ s. s ≡ schema_of raw.now) }
+{
+    let mut env = Vec::new(alloc);
+    let items = build_items(alloc, raw.items.as_slice(), &mut env)?;
+    let concl = build_pattern(alloc, &raw.concl, &mut env)?;
+    Ok(Schema { items, concl })
+}
+
+/// The schemata that are written.
+pub fn build_schemata(alloc: Global, raws: &[RawSchema]) -> Result<List<Schema>, NoMemory>
+    ensures { IfOk result (λ ss. ss ≡ map schema_of raws.now) }
+{
+    let mut built = List::with_capacity(alloc, raws.len() as u64)?;
+    for raw in raws {
+        let schema = build_schema(alloc, raw)?;
+        if let Err((_, refused)) = built.push(schema) {
+            return Err(refused);
+        }
+    }
+    Ok(built)
+}
