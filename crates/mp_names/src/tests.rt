@@ -1,4 +1,4 @@
-use crate::Names;
+use crate::{NameSet, Names};
 use mp_logic::Sym;
 
 #[test]
@@ -23,4 +23,15 @@ fn names_keep_their_numbers(rt: HostRuntime) {
     assert_eq!(rt; names.find(b"x"), None);
     assert_eq!(rt; names.text(Sym(1)), b"all".as_slice());
     assert_eq!(rt; names.text(Sym(3)), b"".as_slice());
+}
+
+#[test]
+fn a_name_is_met_once(rt: HostRuntime) {
+    let mut met = NameSet::new(rt.alloc());
+    for (name, known) in [(3u32, false), (0, false), (3, true), (1, false), (0, true)] {
+        let Ok(told) = met.meet(Sym(name)) else {
+            panic!(rt; "no memory");
+        };
+        assert_eq!(rt; told, known);
+    }
 }

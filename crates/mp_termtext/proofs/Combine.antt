@@ -1,9 +1,11 @@
 -- Parts put together have one reading where their parts have.
-use Rattle.std.proofs.Common.{Bool, true≢false, ◌≡◌, List, [], ◌∷◌, None, Some, inl, inr, refl, ap, sym, subst, ◌∙◌}
+use Rattle.std.proofs.Common.{ℕ, length, Bool, true≢false, ◌≡◌, List, [], ◌∷◌, None, Some, inl, inr, refl, ap, sym, subst, ◌∙◌}
 use Rattle.mp_termtext.specs.declared.word.Word.{Word}
+use Rattle.mp_termtext.specs.declared.raw.RawName.{RawName}
+use Rattle.mp_termtext.specs.declared.raw.RawNumber.{RawNumber}
 use Rattle.mp_termtext.specs.declared.word.Mark.{Mark}
 use Rattle.mp_termtext.specs.declared.word.Keyword.{Keyword}
-use Rattle.mp_termtext.specs.Parts.{IsMark, IsWord, IsName, IsCap, IsCapVar, IsNumber, Lacks, Both, StuckBoth, After, StuckAfter, Optional, StuckOptional, Maybe, StuckMaybe, Whole, StuckWhole, Many, StuckMany, no_more, one_more, in_one, in_others, Repeated, StuckRepeated, no_further, one_further, in_first, in_further, Separated, StuckSeparated, last, more, here, behind, after, Listed, StuckListed, HasOne, AreApart, HasOneStop, OneReading}
+use Rattle.mp_termtext.specs.Parts.{IsMark, IsWord, IsName, IsCap, IsCapVar, IsNumber, IsNameAt, IsCapAt, IsNumberAt, Lacks, Ended, StuckEnded, Led, IfThere, Both, StuckBoth, After, StuckAfter, Optional, StuckOptional, Maybe, StuckMaybe, Whole, StuckWhole, Many, StuckMany, no_more, one_more, in_one, in_others, Repeated, StuckRepeated, no_further, one_further, in_first, in_further, Separated, StuckSeparated, last, more, here, behind, after, Listed, StuckListed, HasOne, AreApart, HasOneStop, OneReading}
 
 -- a sign leaves the same words
 abbrev pub SignHasOne : (List Word → List Word → Type 0) → Type 0
@@ -41,6 +43,52 @@ one_cap_var = one_lacks IsCapVar (λ n m ts r s h k. (cc, cc))
 
 pub one_number : OneReading IsNumber (Lacks IsNumber)
 one_number = one_lacks IsNumber (λ n m ts r s h k. (cc, cc))
+
+-- a part with its place has one reading where the part has
+module _ {X Y : Type 0} (A : X → List Word → List Word → Type 0) (SA : List Word → List Word → Type 0) (a : OneReading A SA) (part : Y → X) (left : Y → ℕ) (same : (y z : Y) → part y ≡ part z → left y ≡ left z → y ≡ z) where
+  abbrev pub Placed : Y → List Word → List Word → Type 0
+  Placed y ts rest = A (part y) ts rest × (left y ≡ length ts)
+
+  placed_has_one : HasOne Placed
+  placed_has_one y z ts r s h k = let e = a.value (part y) (part z) ts r s h.0 k.0 in (same y z e.0 (h.1 ∙ sym k.1), e.1)
+
+  pub one_placed : OneReading Placed SA
+  one_placed = record { value = placed_has_one; apart = λ y ts r s h k. a.apart (part y) ts r s h k.0; stop = a.stop }
+
+same_name_at : (n m : RawName) → n.name ≡ m.name → n.left ≡ m.left → n ≡ m
+same_name_at n m e f = λ i. record { name = e i; left = f i }
+
+same_number_at : (n m : RawNumber) → n.value ≡ m.value → n.left ≡ m.left → n ≡ m
+same_number_at n m e f = λ i. record { value = e i; left = f i }
+
+pub one_name_at : OneReading IsNameAt (Lacks IsNameAt)
+one_name_at = one_lacks IsNameAt (one_placed IsName (Lacks IsName) one_name (λ n. n.name) (λ n. n.left) same_name_at).value
+
+pub one_cap_at : OneReading IsCapAt (Lacks IsCapAt)
+one_cap_at = one_lacks IsCapAt (one_placed IsCap (Lacks IsCap) one_cap (λ n. n.name) (λ n. n.left) same_name_at).value
+
+pub one_number_at : OneReading IsNumberAt (Lacks IsNumberAt)
+one_number_at = one_lacks IsNumberAt (one_placed IsNumber (Lacks IsNumber) one_number (λ n. n.value) (λ n. n.left) same_number_at).value
+
+-- a part with its end has one reading where the part has
+module _ {X : Type 0} (A : X → List Word → List Word → Type 0) (SA S : List Word → List Word → Type 0) (a : OneReading A SA) (one : SignHasOne S) where
+  ended_has_one : HasOne (Ended A S)
+  ended_has_one x y ts r s h k =
+      let e = a.value x y ts h.0 k.0 h.1 k.1 in (e.0, one k.0 r s (subst (λ us. S us r) e.1 h.2) k.2)
+
+  ended_apart : AreApart (Ended A S) (StuckEnded A SA S)
+  ended_apart x ts r s (inl h) k = a.apart x ts k.0 s h k.1
+  ended_apart x ts r s (inr h) k =
+      let e = a.value h.0 x ts h.1 k.0 h.2 k.1 in h.3.0 r (subst (λ us. S us r) (sym e.1) k.2)
+
+  ended_stop : HasOneStop (StuckEnded A SA S)
+  ended_stop ts r s (inl h) (inl k) = a.stop ts r s h k
+  ended_stop ts r s (inl h) (inr k) = absurd (a.apart k.0 ts k.1 r h k.2)
+  ended_stop ts r s (inr h) (inl k) = absurd (a.apart h.0 ts h.1 s k h.2)
+  ended_stop ts r s (inr h) (inr k) = let e = a.value h.0 k.0 ts h.1 k.1 h.2 k.2 in h.3.1 ∙ e.1 ∙ sym k.3.1
+
+  pub one_ended : OneReading (Ended A S) (StuckEnded A SA S)
+  one_ended = record { value = ended_has_one; apart = ended_apart; stop = ended_stop }
 
 module _ {X Y : Type 0} (A : X → List Word → List Word → Type 0) (B : Y → List Word → List Word → Type 0) (SA SB : List Word → List Word → Type 0) (a : OneReading A SA) (b : OneReading B SB) where
   both_has_one : HasOne (Both A B)
@@ -100,6 +148,31 @@ module _ {X : Type 0} (S : List Word → List Word → Type 0) (A : X → List W
 
     pub one_optional : OneReading (Optional S none A) (StuckOptional S SA)
     one_optional = record { value = optional_has_one; apart = optional_is_apart; stop = optional_stop }
+
+-- so has a part that may be left out
+module _ {X : Type 0} (S : List Word → List Word → Type 0) (A : X → List Word → List Word → Type 0) (SA : List Word → List Word → Type 0) (one : SignHasOne S) (a : OneReading A SA) where
+  led_has_one : HasOne (Led S A)
+  led_has_one None None ts r s h k = (refl, h.1 ∙ sym k.1)
+  led_has_one None (Some y) ts r s h k = absurd (h.0 k.0 k.1)
+  led_has_one (Some x) None ts r s h k = absurd (k.0 h.0 h.1)
+  led_has_one (Some x) (Some y) ts r s h k = let e = (one_after S A SA one a).value x y ts r s h k in (ap Some e.0, e.1)
+
+  led_apart : AreApart (Led S A) (StuckOptional S SA)
+  led_apart None ts r s h k = k.0 h.0 h.1
+  led_apart (Some x) ts r s h k = (one_after S A SA one a).apart x ts r s (inr h) k
+
+  pub one_led : OneReading (Led S A) (StuckOptional S SA)
+  one_led = record { value = led_has_one; apart = led_apart; stop = λ ts r s h k. (one_after S A SA one a).stop ts r s (inr h) (inr k) }
+
+module _ {X : Type 0} (A : X → List Word → List Word → Type 0) (has : HasOne A) where
+  if_there_has_one : HasOne (IfThere A)
+  if_there_has_one None None ts r s h k = (refl, h.1 ∙ sym k.1)
+  if_there_has_one None (Some y) ts r s h k = absurd (h.0 y s k)
+  if_there_has_one (Some x) None ts r s h k = absurd (k.0 x r h)
+  if_there_has_one (Some x) (Some y) ts r s h k = let e = has x y ts r s h k in (ap Some e.0, e.1)
+
+  pub one_if_there : OneReading (IfThere A) (λ ts rest. ⊥)
+  one_if_there = record { value = if_there_has_one; apart = λ x ts r s h k. h; stop = λ ts r s h k. absurd h }
 
 module _ {X : Type 0} (A : X → List Word → List Word → Type 0) (SA : List Word → List Word → Type 0) (a : OneReading A SA) where
   maybe_has_one : HasOne (Maybe A)

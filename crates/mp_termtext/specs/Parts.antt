@@ -5,6 +5,8 @@ use Rattle.mp_termtext.specs.declared.word.Mark.{Mark}
 use Rattle.mp_termtext.specs.declared.word.Keyword.{Keyword}
 use Rattle.mp_termtext.specs.declared.word.Word.{Word}
 use Rattle.mp_termtext.specs.declared.word.Word.TheVariants as word
+use Rattle.mp_termtext.specs.declared.raw.RawName.{RawName}
+use Rattle.mp_termtext.specs.declared.raw.RawNumber.{RawNumber}
 use Rattle.mp_termtext.specs.declared.parts.ReadFail.{ReadFail}
 use Rattle.mp_termtext.specs.declared.parts.ReadFail.TheVariants as fail
 
@@ -55,6 +57,18 @@ IsCapVar n ts rest = ts ≡ word.CapVar n ∷ rest
 abbrev pub IsNumber : Part ℤ
 IsNumber n ts rest = ts ≡ word.Num n ∷ rest
 
+-- a name that begins with a small letter, and its place
+abbrev pub IsNameAt : Part RawName
+IsNameAt n ts rest = IsName n.name ts rest × (n.left ≡ length ts)
+
+-- a name that begins with a capital letter, and its place
+abbrev pub IsCapAt : Part RawName
+IsCapAt n ts rest = IsCap n.name ts rest × (n.left ≡ length ts)
+
+-- a number, and its place
+abbrev pub IsNumberAt : Part RawNumber
+IsNumberAt n ts rest = IsNumber n.value ts rest × (n.left ≡ length ts)
+
 -- a sign is stuck where it doesn't stand
 abbrev pub LacksSign : Sign → Stop
 LacksSign S ts rest = No S ts × (rest ≡ ts)
@@ -83,6 +97,23 @@ Optional S none A x ts rest = (No S ts × (x ≡ none) × (rest ≡ ts)) ⊎ Aft
 
 abbrev pub StuckOptional : Sign → Stop → Stop
 StuckOptional S SA ts rest = (us : List Word) × S ts us × SA us rest
+
+-- first the part, then the sign
+abbrev pub Ended : {X : Type 0} → Part X → Sign → Part X
+Ended A S x ts rest = (us : List Word) × A x ts us × S us rest
+
+abbrev pub StuckEnded : {X : Type 0} → Part X → Stop → Sign → Stop
+StuckEnded {X} A SA S ts rest = SA ts rest ⊎ ((x : X) × (us : List Word) × A x ts us × LacksSign S us rest)
+
+-- the part behind its sign where the sign stands, and else none
+abbrev pub Led : {X : Type 0} → Sign → Part X → Part (Option X)
+Led S A None ts rest = No S ts × (rest ≡ ts)
+Led S A (Some x) ts rest = After S A x ts rest
+
+-- the part where it stands, and else none; this is never stuck
+abbrev pub IfThere : {X : Type 0} → Part X → Part (Option X)
+IfThere A None ts rest = None_of A ts × (rest ≡ ts)
+IfThere A (Some x) ts rest = A x ts rest
 
 -- the part, or no words at all
 abbrev pub Maybe : {X : Type 0} → Part X → Part (Option X)

@@ -93,6 +93,10 @@ left_of = fold-RawTerm ℕ ℕ left_step raw_size_bound_step
 abbrev pub term_faults : ℕ → RawTerm → List Fault
 term_faults free t = faults_of free t [] 1 ++ fault_if (nat_lt 20000 (raw_size_of t)) (left_of t) why.TooBig
 
+-- those of a term behind its binders by itself, which begins where so many words are left
+abbrev pub bound_term_faults : ℕ → ℕ → RawBound → List Fault
+bound_term_faults free l b = bound_faults_of free b [] 1 ++ fault_if (nat_lt 20000 (raw_size_of b.body)) l why.TooBig
+
 abbrev pub hyp_names : List RawHyp → List Sym
 hyp_names hs = map (λ h. h.name) hs
 

@@ -36,7 +36,7 @@ spelled ((spelling, a) ∷ more) text = if is_same text spelling then Some a els
 abbrev pub keywords : List (List ℕ × Keyword)
 keywords =
     (codes "rule", keyword.Rule) ∷ (codes "goal", keyword.Goal) ∷ (codes "fuel", keyword.Fuel) ∷ (codes "by", keyword.By)
-    ∷ (codes "then", keyword.Then) ∷ (codes "claim", keyword.Claim) ∷ (codes "send", keyword.Send) ∷ (codes "again", keyword.Again)
+    ∷ (codes "then", keyword.Then) ∷ (codes "at", keyword.At) ∷ (codes "with", keyword.With) ∷ (codes "id", keyword.Id) ∷ (codes "claim", keyword.Claim) ∷ (codes "send", keyword.Send) ∷ (codes "again", keyword.Again)
     ∷ (codes "die", keyword.Die) ∷ (codes "lose", keyword.Lose) ∷ (codes "reissue", keyword.Reissue) ∷ []
 
 -- the word of a grammar that a name spells

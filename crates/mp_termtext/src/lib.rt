@@ -26,12 +26,15 @@ pub use laws::{one_reading, one_text, round_trip_law};
 pub use lexed::{Lexed, lex_text};
 pub use list::{Beginning, Reader, listed, many, repeated, separated, whole};
 pub use numbering::words;
-pub use parts::{ReadFail, capital, capital_variable, keyword, mark, name, number, stuck};
+pub use parts::{
+    ReadFail, capital, capital_at, capital_variable, keyword, mark, name, name_at, number,
+    number_at, stuck,
+};
 pub use print::{print_sequent, print_term, push_bound_term, push_sequent, push_term};
-pub use raw::{Binder, RawBound, RawHyp, RawParam, RawSequent, RawTerm};
+pub use raw::{Binder, RawBound, RawHyp, RawName, RawNumber, RawParam, RawSequent, RawTerm};
 pub use reading::{read_sequent, read_term};
 pub use scope::{level_of, push_names};
-pub use statics::{check_sequent, check_term, left_of, term_fault};
+pub use statics::{check_bound_term, check_sequent, left_of, term_fault};
 pub use syntax::{
     binders_ahead, parse_binders, parse_bound, parse_params, parse_sequent, parse_term, variable,
 };

@@ -1,7 +1,8 @@
 ghost use Rattle.std.specs.Prelude.{◌≡◌, length, MatchOption};
-ghost use Rattle.mp_termtext.specs.Parts.{No, None_of, IsMark, IsWord, IsName, IsCap, IsCapVar, IsNumber};
+ghost use Rattle.mp_termtext.specs.Parts.{No, None_of, IsMark, IsWord, IsName, IsCap, IsCapVar, IsNumber, IsNameAt, IsCapAt, IsNumberAt};
 ghost use Rattle.mp_termtext.specs.declared.parts.ReadFail.TheVariants.{Stuck};
 
+use crate::raw::{RawName, RawNumber};
 use crate::{Keyword, Mark, Word};
 use mp_logic::Sym;
 
@@ -84,6 +85,45 @@ pub fn number(words: &[Word]) -> Option<(i64, &[Word])>
 {
     match words.split_first() {
         Some((Word::Num(number), rest)) => Some((*number, rest)),
+        _ => None,
+    }
+}
+
+/// The name with a small letter at the front with its place, and what is behind it.
+pub fn name_at(words: &[Word]) -> Option<(RawName, &[Word])>
+    ensures { MatchOption result (None_of IsNameAt words.now) (λ p. IsNameAt p.0 words.now p.1.now) }
+{
+    let left = words.len() as u64;
+    match words.split_first() {
+        Some((Word::Small { name, .. }, rest)) => Some((RawName { name: *name, left }, rest)),
+        _ => None,
+    }
+}
+
+/// The name with a capital letter at the front with its place, and what is behind it.
+pub fn capital_at(words: &[Word]) -> Option<(RawName, &[Word])>
+    ensures { MatchOption result (None_of IsCapAt words.now) (λ p. IsCapAt p.0 words.now p.1.now) }
+{
+    let left = words.len() as u64;
+    match words.split_first() {
+        Some((Word::Cap(name), rest)) => Some((RawName { name: *name, left }, rest)),
+        _ => None,
+    }
+}
+
+/// The number at the front with its place, and what is behind it.
+pub fn number_at(words: &[Word]) -> Option<(RawNumber, &[Word])>
+    ensures { MatchOption result (None_of IsNumberAt words.now) (λ p. IsNumberAt p.0 words.now p.1.now) }
+{
+    let left = words.len() as u64;
+    match words.split_first() {
+        Some((Word::Num(value), rest)) => Some((
+            RawNumber {
+                value: *value,
+                left,
+            },
+            rest,
+        )),
         _ => None,
     }
 }

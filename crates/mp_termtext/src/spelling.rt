@@ -22,6 +22,12 @@ pub(crate) fn keyword(text: &[u8]) -> Option<Keyword>
         Some(Keyword::By)
     } else if text == b"then".as_slice() {
         Some(Keyword::Then)
+    } else if text == b"at".as_slice() {
+        Some(Keyword::At)
+    } else if text == b"with".as_slice() {
+        Some(Keyword::With)
+    } else if text == b"id".as_slice() {
+        Some(Keyword::Id)
     } else if text == b"claim".as_slice() {
         Some(Keyword::Claim)
     } else if text == b"send".as_slice() {

@@ -2,7 +2,7 @@ ghost use Rattle.std.specs.Prelude.{◌≡◌, ◌+◌, ◌++◌, ℕ, [], None,
 ghost use Rattle.mp_logic.specs.Trees.{counted};
 ghost use Rattle.mp_termtext.specs.declared.fail.TextWhy.TheVariants as why;
 ghost use Rattle.mp_termtext.specs.Faults.{fault_if, least, least_from, too_many};
-ghost use Rattle.mp_termtext.specs.Statics.{bound_faults_of, deep, faults_of, hyp_names, hyps_faults, left_of, level_of, raw_sequent_size_of, raw_size_of, sequent_faults, term_faults, unless_bound};
+ghost use Rattle.mp_termtext.specs.Statics.{bound_faults_of, bound_term_faults, deep, faults_of, hyp_names, hyps_faults, left_of, level_of, raw_sequent_size_of, raw_size_of, sequent_faults, term_faults, unless_bound};
 
 use crate::fault::{behind, sooner_of};
 use crate::scope::{level_of, push_names};
@@ -157,19 +157,22 @@ fn check_size(held: Option<Fault>, size: u64, left: u64) -> Option<Fault>
     }
 }
 
-/// The soonest of the fault that is held and those of a term that stands by itself: those of its nodes, where
-/// the names `env` are bound behind `free` free ones.
-pub fn check_term(
-    raw: &RawTerm,
+/// The soonest of the fault that is held and those of a term behind its binders that stands by itself, where so many
+/// names are free and which begins where `left` words are left: more than 8 binders, the faults of the term's nodes, and
+/// more than 20,000 nodes.
+#[tactic(auto, using(crate::proofs::Soonest::least_from_append))]
+pub fn check_bound_term(
+    alloc: Global,
+    raw: &RawBound,
     free: u32,
-    env: &mut Vec<Sym>,
+    left: u64,
     held: Option<Fault>,
 ) -> Result<Option<Fault>, NoMemory>
-    ensures fault { IfOk result (λ found. found ≡ least_from held (faults_of free raw.now env.old.items 1)) }
-    ensures env { OnOk result (env.new.items ≡ env.old.items) }
+    ensures { IfOk result (λ found. found ≡ least_from held (bound_term_faults free left raw.now)) }
 {
-    let found = check_in(raw, free, env, 1, held)?;
-    Ok(found)
+    let mut env = Vec::new(alloc);
+    let held = check_bound(raw, free, &mut env, 1, held)?;
+    Ok(check_size(held, raw_size(&raw.body), left))
 }
 
 /// The least static fault of a term that is all of a text, where so many names are free. None exactly where

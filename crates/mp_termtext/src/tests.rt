@@ -253,7 +253,7 @@ fn each_mark_and_each_keyword_is_told(rt: HostRuntime) -> Result<(), Fail> {
     for (word, mark) in read_words.as_slice().iter().zip(want.iter()) {
         assert_eq!(rt; *word, Word::Mark(*mark));
     }
-    let source = b"rule goal fuel by then claim send again die lose reissue";
+    let source = b"rule goal fuel by then at with id claim send again die lose reissue";
     let read_words = read(alloc, &mut names, source)?;
     let want = [
         Keyword::Rule,
@@ -261,6 +261,9 @@ fn each_mark_and_each_keyword_is_told(rt: HostRuntime) -> Result<(), Fail> {
         Keyword::Fuel,
         Keyword::By,
         Keyword::Then,
+        Keyword::At,
+        Keyword::With,
+        Keyword::Id,
         Keyword::Claim,
         Keyword::Send,
         Keyword::Again,
@@ -268,14 +271,14 @@ fn each_mark_and_each_keyword_is_told(rt: HostRuntime) -> Result<(), Fail> {
         Keyword::Lose,
         Keyword::Reissue,
     ];
-    assert_eq!(rt; read_words.len(), 11);
+    assert_eq!(rt; read_words.len(), 14);
     for (word, keyword) in read_words.as_slice().iter().zip(want.iter()) {
         let Word::Small { keyword: told, .. } = word else {
             panic!(rt; "not a name");
         };
         assert_eq!(rt; *told, Some(*keyword));
     }
-    assert_eq!(rt; names.len(), 11);
+    assert_eq!(rt; names.len(), 14);
     Ok(())
 }
 

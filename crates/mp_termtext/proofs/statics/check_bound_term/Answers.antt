@@ -1,0 +1,15 @@
+use Rattle.std.proofs.Common.{[], refl, ap, sym, ◌∙◌}
+use Rattle.mp_termtext.specs.declared.fail.TextWhy.TheVariants as why
+use Rattle.std.specs.Prelude.{nat_lt}
+use Rattle.mp_termtext.specs.Faults.{fault_if, least_from}
+use Rattle.mp_termtext.specs.Statics.{bound_faults_of, raw_size_of}
+use Rattle.mp_termtext.proofs.Soonest.{least_from_append}
+use Rattle.mp_termtext.proofs.statics.check_bound_term.Goals as goal
+
+pub returns : goal.returns
+returns c =
+    let raw = c.args.raw.now in
+    let n = raw_size_of raw.body in
+    c.check_size.ensures n (sym c.raw_size.ensures)
+    ∙ ap (λ h. least_from h (fault_if (nat_lt 20000 n) c.args.left why.TooBig)) (c.in_ok-held.ensures.fault 1 refl ∙ ap (λ env. least_from c.args.held (bound_faults_of c.args.free raw env 1)) c.new-env.ensures.items)
+    ∙ sym (least_from_append c.args.held (bound_faults_of c.args.free raw [] 1) (fault_if (nat_lt 20000 n) c.args.left why.TooBig))
