@@ -1,26 +1,22 @@
 -- The uses in what is written are the occurrences in what it stands for.
-use Rattle.std.proofs.Common.{◌≡◌, ℕ, zero, suc, ◌+◌, ◌*◌, ◌<◌, ◌≤◌, ◌++◌, List, [], ◌∷◌, map, length, length-append, min, Bool, true, false, ◌&&◌, ◌||◌, not, nat_eq, Option, Some, None, refl, ap, sym, subst, ◌∙◌, arith, inl, inr, ◌⊎◌, true≢false, rules}
-use Rattle.std.specs.Prelude.{unwrap_or, if◌then◌else◌}
+use Rattle.std.proofs.Common.{◌≡◌, ℕ, ◌+◌, ◌*◌, ◌<◌, ◌≤◌, ◌++◌, List, [], ◌∷◌, map, length, length-append, min, Bool, true, false, ◌&&◌, ◌||◌, not, nat_eq, Option, Some, None, refl, ap, sym, subst, ◌∙◌, arith, inl, inr, ◌⊎◌, true≢false, rules}
+use Rattle.std.specs.Prelude.{unwrap_or}
 use Rattle.std.specs.List.{list_all, flat_map}
 use Rattle.std.proofs.lemmas.Bool.{and_parts, and_from}
 use Rattle.std.proofs.lemmas.Bool.Decides.{nat_tests}
 use Rattle.std.proofs.lemmas.List.{length-map}
 use Rattle.std.proofs.lemmas.List.Folds.{flat_map-map}
 use Rattle.mp_logic.specs.declared.sym.Sym.{Sym}
-use Rattle.mp_schema.specs.declared.pattern.Pattern.{Pattern}
-use Rattle.mp_schema.specs.declared.pattern.Pattern as pat
-use Rattle.mp_schema.specs.declared.pattern.PBound.{PBound}
 use Rattle.mp_schema.specs.Conditions.{has, has_all, is_apart}
 use Rattle.mp_schema.specs.Faults.{are_distinct, has_level}
 use Rattle.mp_schema.specs.Occurrences.{Occurrence, level_of, occurrences_in, occurrences_in_bound}
 use Rattle.mp_schema.proofs.Names.{has-append}
-use Rattle.mp_schema.proofs.Layers.{level_of-Var, level_of-Op, level_of-Meta, occurrences_in-Var, occurrences_in-Op, occurrences_in-Meta, occurrences_in_bound-is}
+use Rattle.mp_schema.proofs.Layers.{level_of-Var, occurrences_in-Var, occurrences_in-Op, occurrences_in-Meta, occurrences_in_bound-is}
 use Rattle.mp_termtext.specs.declared.fail.TextWhy.TheVariants as why
-use Rattle.mp_termtext.specs.declared.fault.Fault.{Fault}
 use Rattle.mp_termtext.specs.Faults.{fault_if}
 use Rattle.mp_termtext.specs.Statics.{each_faults, level_by, names_of, or_here, place_in}
 use Rattle.mp_termtext.proofs.Faultless.{nil_parts, no_fault}
-use Rattle.mp_theorytext.specs.declared.raw.RawName.{RawName}
+use Rattle.mp_termtext.specs.declared.raw.RawName.{RawName}
 use Rattle.mp_theorytext.specs.declared.raw.RawParamPat.{RawParamPat}
 use Rattle.mp_theorytext.specs.declared.raw.RawPatternBound.{RawPatternBound}
 use Rattle.mp_theorytext.specs.declared.raw.RawPattern.{RawPattern, the_lemmas}
@@ -33,7 +29,7 @@ use Rattle.mp_theorytext.specs.Statics.{node_faults, bound_node_faults}
 use Rattle.mp_theorytext.proofs.RawInduction.{OfEachBody, OfEachArg, each_raw, each_args}
 use Rattle.mp_theorytext.proofs.RawLayers.{pattern_of-Var, pattern_of-Op, pattern_of-Meta, bound_of-is}
 use Rattle.mp_theorytext.proofs.UseSteps.{uses_in-Var, uses_in-Op, uses_in-Meta, uses_in_bound-is}
-use Rattle.mp_theorytext.proofs.InRange.{level_found, level_below, binders_few, body_faultless, op_shallow, op_bodies, meta_shallow, meta_args, length-each}
+use Rattle.mp_theorytext.proofs.InRange.{level_found, level_below, binders_few, body_faultless, op_bodies, meta_shallow, meta_args, length-each}
 
 -- ## Levels and names
 

@@ -1,10 +1,10 @@
 -- Uses that are like the first ones of their names.
-use Rattle.std.proofs.Common.{◌≡◌, ℕ, ◌++◌, List, [], ◌∷◌, map, Bool, true, false, ◌&&◌, not, nat_eq, cond, Option, Some, None, refl, ap, sym, ◌∙◌, arith, append_assoc, true≢false}
+use Rattle.std.proofs.Common.{◌≡◌, ℕ, ◌++◌, List, [], ◌∷◌, map, Bool, true, false, ◌&&◌, not, nat_eq, Option, Some, None, refl, ap, sym, ◌∙◌, arith, append_assoc}
 use Rattle.std.specs.Prelude.{if◌then◌else◌, is_some}
 use Rattle.std.specs.List.{list_all}
 use Rattle.std.specs.Option.{option_map}
 use Rattle.std.proofs.lemmas.List.Folds.{list_all-map}
-use Rattle.std.proofs.lemmas.Bool.{and_parts, and_from}
+use Rattle.std.proofs.lemmas.Bool.{and_from}
 use Rattle.std.proofs.lemmas.Bool.Decides.{nat_tests}
 use Rattle.mp_logic.specs.declared.sym.Sym.{Sym}
 use Rattle.mp_schema.specs.Faults.{same_bool, same_names, is_like_first, is_consistent}
@@ -13,7 +13,7 @@ use Rattle.mp_termtext.specs.declared.fault.Fault.{Fault}
 use Rattle.mp_termtext.specs.declared.fail.TextWhy.TheVariants as why
 use Rattle.mp_termtext.specs.Faults.{too_many}
 use Rattle.mp_termtext.proofs.Faultless.{nil_parts, no_fault, not_many}
-use Rattle.mp_theorytext.specs.declared.raw.RawName.{RawName}
+use Rattle.mp_termtext.specs.declared.raw.RawName.{RawName}
 use Rattle.mp_theorytext.specs.declared.uses.First.{First}
 use Rattle.mp_theorytext.specs.Uses.{Argument, Use, list_faults, argument_faults, find_first, first_of, firsts_with, is_like, unless_like, use_faults, uses_faults}
 use Rattle.mp_theorytext.proofs.Agreeing.{used_of, IsFine, AreFine}

@@ -1,5 +1,5 @@
 -- The least fault so far goes on from one part to the next.
-use Rattle.std.proofs.Common.{◌≡◌, ◌++◌, ◌+◌, ◌<◌, ℕ, suc, List, [], ◌∷◌, Option, Bool, true, false, if◌then◌else◌, refl, ap, sym, ◌∙◌, map, drop, length, get_or, drop-cons, add-one, nat_lt}
+use Rattle.std.proofs.Common.{◌≡◌, ◌++◌, ◌+◌, ◌<◌, ℕ, suc, List, [], ◌∷◌, Option, Bool, true, if◌then◌else◌, refl, ap, sym, ◌∙◌, map, drop, length, get_or, drop-cons, add-one, nat_lt, nat_eq, ◌||◌, subst}
 use Rattle.std.specs.List.{flat_map}
 use Rattle.mp_logic.specs.declared.sym.Sym.{Sym}
 use Rattle.mp_termtext.specs.declared.fault.Fault.{Fault}
@@ -10,6 +10,8 @@ use Rattle.mp_termtext.proofs.Soonest.{least_from_append}
 use Rattle.mp_theorytext.specs.declared.raw.RawItem.{RawItem}
 use Rattle.mp_theorytext.specs.declared.raw.RawSchema.{RawSchema}
 use Rattle.mp_schema.specs.Conditions.{has}
+use Rattle.mp_names.specs.Sets.{is_met, with_met, is_among, Met}
+use Rattle.mp_names.proofs.Meeting.{meeting}
 use Rattle.mp_theorytext.specs.declared.raw.RawRule.{RawRule}
 use Rattle.mp_theorytext.specs.Scopes.{names_in, contexts_past, contexts_behind, env_past, env_behind}
 use Rattle.mp_theorytext.specs.declared.uses.First.{First}
@@ -96,13 +98,30 @@ rule_parts r concl cs ds premises held a b c d e all c-is d-is same f g h k l =
     two_parts held d e (too_many (λ s. s.left) 16 r.premises ++ premises_faults cs r.premises ++ schema_faults true cs r.concl ++ uses_faults [] (uses_in_rule r)) (hole_faults (names_in (raw_schema_holes r.concl)) (flat_map raw_schema_holes r.premises))
     (four_parts held a b c d (too_many (λ s. s.left) 16 r.premises) (premises_faults cs r.premises) (schema_faults true cs r.concl) (uses_faults [] (uses_in_rule r)) f g' h' k) l
 
+-- ## Rules
+
+among_has : (names : List Sym) (name : Sym) → is_among names name ≡ has names name
+among_has [] name = refl
+among_has (x ∷ xs) name = ap (λ b. nat_eq x.0 name.0 || b) (among_has xs name)
+
+-- these are the names that were met, and the least fault is that of the rules that are left behind rules of these names
+abbrev pub IsBehind : List ℕ → Option Fault → List RawRule → Option Fault → Type 0
+IsBehind met held rest whole = (taken : List Sym) × (Met met taken × (least_from held (rules_faults taken rest) ≡ whole))
+
 -- one rule more
-pub rules_next : (rs : List RawRule) (i : ℕ) (r : RawRule) (taken seen after : List Sym) (held mid next whole : Option Fault) → i < length rs → r ≡ get_or rs i r → seen ≡ taken → after ≡ taken ++ r.name.name ∷ []
-    → mid ≡ least_from held (fault_if (has seen r.name.name) r.name.left why.Taken) → next ≡ least_from mid (rule_faults r)
-    → least_from held (rules_faults taken (drop i rs)) ≡ whole → least_from next (rules_faults after (drop (i + 1) rs)) ≡ whole
-rules_next rs i r taken seen after held mid next whole lt is same grown e f prev =
-    let rest = rules_faults (taken ++ r.name.name ∷ []) (drop (i + 1) rs) in
-    let one = fault_if (has taken r.name.name) r.name.left why.Taken in
-    let e' : mid ≡ least_from held one = e ∙ ap (λ ns. least_from held (fault_if (has ns r.name.name) r.name.left why.Taken)) same in
-    ap (λ ns. least_from next (rules_faults ns (drop (i + 1) rs))) grown ∙ three_parts held mid next (least_from next rest) one (rule_faults r) rest e' f refl
-    ∙ ap (λ ys. least_from held (rules_faults taken ys)) (sym (left_cons rs i r lt is)) ∙ prev
+pub rules_next : (rs : List RawRule) (i : ℕ) (r : RawRule) (met after : List ℕ) (held mid next whole : Option Fault) → i < length rs → r ≡ get_or rs i r → after ≡ with_met met r.name.name.0
+    → mid ≡ least_from held (fault_if (is_met met r.name.name.0) r.name.left why.Taken) → next ≡ least_from mid (rule_faults r)
+    → IsBehind met held (drop i rs) whole → IsBehind after next (drop (i + 1) rs) whole
+rules_next rs i r met after held mid next whole lt is grown e f (taken, (are_met, prev)) =
+    let name = r.name.name in
+    let rest = rules_faults (taken ++ name ∷ []) (drop (i + 1) rs) in
+    let one = fault_if (has taken name) r.name.left why.Taken in
+    let e' : mid ≡ least_from held one = e ∙ ap (λ b. least_from held (fault_if b r.name.left why.Taken)) (are_met name ∙ among_has taken name) in
+    let are_met' : Met after (taken ++ name ∷ []) = subst (λ ns. Met ns (taken ++ name ∷ [])) (sym grown) (meeting met taken name are_met) in (
+      taken ++ name ∷ [],
+      (
+        are_met',
+        three_parts held mid next (least_from next rest) one (rule_faults r) rest e' f refl
+            ∙ ap (λ ys. least_from held (rules_faults taken ys)) (sym (left_cons rs i r lt is)) ∙ prev,
+      ),
+    )

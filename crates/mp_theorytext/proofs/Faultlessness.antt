@@ -1,28 +1,25 @@
 -- A rule without static faults may be added to a theory.
-use Rattle.std.proofs.Common.{◌≡◌, ◌≤◌, ℕ, ◌++◌, List, [], ◌∷◌, map, length, Bool, true, false, ◌&&◌, ◌||◌, not, nat_eq, nat_le, Option, None, Some, refl, ap, sym, ◌∙◌, arith}
-use Rattle.std.specs.Prelude.{if◌then◌else◌}
+use Rattle.std.proofs.Common.{◌≡◌, ◌≤◌, ℕ, ◌++◌, List, [], ◌∷◌, map, length, Bool, true, false, ◌||◌, not, nat_eq, nat_le, None, refl, ap, sym, ◌∙◌, arith}
 use Rattle.std.specs.List.{list_all, flat_map}
-use Rattle.std.proofs.lemmas.Bool.{and_parts, and_from}
+use Rattle.std.proofs.lemmas.Bool.{and_from}
 use Rattle.std.proofs.lemmas.Bool.Decides.{nat_tests}
 use Rattle.std.proofs.lemmas.List.{length-map}
-use Rattle.std.proofs.lemmas.List.Folds.{list_all-append}
 use Rattle.mp_logic.specs.declared.sym.Sym.{Sym}
 use Rattle.mp_schema.specs.declared.schema.Schema.{Schema}
-use Rattle.mp_schema.specs.declared.fault.SchemaFault.{SchemaFault}
-use Rattle.mp_schema.specs.Conditions.{has, has_all, context_names, has_two_contexts, is_framed, nothing_before}
+use Rattle.mp_schema.specs.Conditions.{has, has_all, context_names, has_two_contexts, nothing_before}
 use Rattle.mp_schema.specs.Limits.{few_of_schema, is_shallow_schema, is_small_schema}
-use Rattle.mp_schema.specs.Faults.{is_closed, is_listed, is_single, on_variables, is_consistent, first_fault, rule_is_few, rule_is_shallow, rule_is_small, rule_is_closed, rule_is_listed, rule_is_single, rule_has_few_contexts, rule_is_framed, rule_is_on_variables, rule_is_consistent, rule_is_filled, rule_fault_of, occurrences_of_rule}
-use Rattle.mp_schema.specs.Occurrences.{Occurrence, occurrences_in_schema, holes_in_schema}
+use Rattle.mp_schema.specs.Faults.{is_closed, is_listed, is_single, rule_is_few, rule_is_shallow, rule_is_small, rule_is_closed, rule_is_listed, rule_is_single, rule_has_few_contexts, rule_is_framed, rule_is_on_variables, rule_is_consistent, rule_is_filled, rule_fault_of, occurrences_of_rule}
+use Rattle.mp_schema.specs.Occurrences.{occurrences_in_schema}
 use Rattle.mp_termtext.specs.declared.fail.TextWhy.TheVariants as why
 use Rattle.mp_termtext.specs.declared.fault.Fault.{Fault}
 use Rattle.mp_termtext.specs.Faults.{fault_if, too_many}
 use Rattle.mp_termtext.proofs.Faultless.{nil_parts, no_fault, not_many}
-use Rattle.mp_theorytext.specs.declared.raw.RawName.{RawName}
+use Rattle.mp_termtext.specs.declared.raw.RawName.{RawName}
 use Rattle.mp_theorytext.specs.declared.raw.RawSchema.{RawSchema}
 use Rattle.mp_theorytext.specs.declared.raw.RawRule.{RawRule}
 use Rattle.mp_theorytext.specs.Scopes.{names_in}
-use Rattle.mp_theorytext.specs.Values.{items_of, schema_of}
-use Rattle.mp_theorytext.specs.Uses.{Use, first_of, uses_in_schema, uses_in_rule, uses_faults, hole_faults, raw_schema_holes}
+use Rattle.mp_theorytext.specs.Values.{schema_of}
+use Rattle.mp_theorytext.specs.Uses.{first_of, uses_in_schema, uses_in_rule, uses_faults, hole_faults, raw_schema_holes}
 use Rattle.mp_theorytext.specs.Statics.{contexts_of, schema_faults, premises_faults, rule_faults}
 use Rattle.mp_theorytext.proofs.Agreeing.{AreFine, fine-parts, used_of}
 use Rattle.mp_theorytext.proofs.Consistent.{all_fine, consistent_from}

@@ -3,7 +3,7 @@ use Rattle.std.proofs.Common.{◌≡◌, ◌++◌, ℕ, List, [], map, ap, sym, 
 use Rattle.std.proofs.lemmas.List.Folds.{flat_map-map}
 use Rattle.std.specs.List.{flat_map}
 use Rattle.mp_logic.specs.declared.sym.Sym.{Sym}
-use Rattle.mp_theorytext.specs.declared.raw.RawName.{RawName}
+use Rattle.mp_termtext.specs.declared.raw.RawName.{RawName}
 use Rattle.mp_theorytext.specs.declared.raw.RawParamPat.{RawParamPat}
 use Rattle.mp_theorytext.specs.declared.raw.RawPatternBound.{RawPatternBound}
 use Rattle.mp_theorytext.specs.declared.raw.RawPattern.{RawPattern, the_lemmas}

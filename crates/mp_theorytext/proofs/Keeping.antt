@@ -1,37 +1,31 @@
 -- A schema without faults keeps what is asked of the schemata of a rule.
-use Rattle.std.proofs.Common.{◌≡◌, ℕ, zero, suc, ◌+◌, ◌*◌, ◌<◌, ◌≤◌, ◌++◌, List, [], ◌∷◌, map, length, length-append, Bool, true, false, ◌&&◌, ◌||◌, not, nat_eq, nat_le, nat_lt, refl, ap, sym, ◌∙◌, arith, append_assoc, append-nil}
+use Rattle.std.proofs.Common.{◌≡◌, ℕ, ◌+◌, ◌<◌, ◌≤◌, ◌++◌, List, [], ◌∷◌, map, length, length-append, Bool, true, false, ◌&&◌, ◌||◌, not, nat_eq, nat_le, nat_lt, refl, ap, sym, ◌∙◌, arith, append_assoc, append-nil}
 use Rattle.std.specs.Prelude.{if◌then◌else◌}
 use Rattle.std.specs.List.{list_all, flat_map}
 use Rattle.std.proofs.lemmas.Bool.{and_parts, and_from}
 use Rattle.std.proofs.lemmas.Bool.Decides.{nat_tests}
 use Rattle.std.proofs.lemmas.List.Folds.{list_all-append, flat_map-map}
 use Rattle.mp_logic.specs.declared.sym.Sym.{Sym}
-use Rattle.mp_term.specs.Terms.{at_scope, greatest}
-use Rattle.mp_schema.specs.declared.schema.Item.{Item}
-use Rattle.mp_schema.specs.declared.schema.Schema.{Schema}
+use Rattle.mp_term.specs.Terms.{at_scope}
 use Rattle.mp_schema.specs.Conditions.{Before, nothing_before, past, past_all, each_item, has, has_all, is_apart, context_names, has_two_contexts, item_between, is_framed, below}
 use Rattle.mp_schema.specs.Conditions as conditions
-use Rattle.mp_schema.specs.Instances.{all_pass}
-use Rattle.mp_schema.specs.Limits.{few_of, few_of_item, few_of_schema, item_depth_of, is_shallow_item, is_shallow_schema, is_small_schema, pattern_depth_of}
+use Rattle.mp_schema.specs.Limits.{few_of_item, few_of_schema, is_shallow_item, is_shallow_schema, is_small_schema}
 use Rattle.mp_schema.specs.Faults.{item_closed, is_closed, all_listed, item_listed, is_listed, lists_apart, is_single, on_variables, are_distinct}
 use Rattle.mp_schema.specs.Occurrences.{Occurrence, occurrences_in, occurrences_in_item, occurrences_in_schema}
 use Rattle.mp_schema.proofs.Names.{has-append}
 use Rattle.mp_termtext.specs.declared.fail.TextWhy.TheVariants as why
 use Rattle.mp_termtext.specs.declared.fault.Fault.{Fault}
 use Rattle.mp_termtext.specs.Faults.{fault_if, too_many}
-use Rattle.mp_termtext.specs.Statics.{each_faults}
 use Rattle.mp_termtext.proofs.Faultless.{nil_parts, no_fault, not_many}
-use Rattle.mp_theorytext.specs.declared.raw.RawName.{RawName}
-use Rattle.mp_theorytext.specs.declared.raw.RawPattern.{RawPattern}
 use Rattle.mp_theorytext.specs.declared.raw.RawItem.{RawItem}
 use Rattle.mp_theorytext.specs.declared.raw.RawItem.TheVariants as item
 use Rattle.mp_theorytext.specs.declared.raw.RawSchema.{RawSchema}
-use Rattle.mp_theorytext.specs.Scopes.{names_in, env_past, env_behind, contexts_past, contexts_behind}
+use Rattle.mp_theorytext.specs.Scopes.{env_past, env_behind, contexts_past, contexts_behind}
 use Rattle.mp_theorytext.specs.Values.{each_value, pattern_of, item_of, items_of, schema_of}
-use Rattle.mp_theorytext.specs.Uses.{Use, Shown, shown, argument_of, uses_in, uses_in_item, uses_in_items, uses_in_schema, first_of}
+use Rattle.mp_theorytext.specs.Uses.{Use, Shown, shown, uses_in, uses_in_item, uses_in_items, uses_in_schema, first_of}
 use Rattle.mp_theorytext.specs.Statics.{node_faults, item_node_faults, item_faults, items_faults, item_left, twice_faults, concl_item_faults, premise_item_faults, raw_schema_size_of, schema_faults, contexts_of}
 use Rattle.mp_theorytext.proofs.InRange.{few_use, counts_few, in_range, each_in_range, has_few, each_has_few}
-use Rattle.mp_theorytext.proofs.Agreeing.{Agrees, AllAgree, agrees, agree-append, has_uses, each_has_uses, IsFine, AreFine, fine-parts, all_new, new_apart, all_listed_from, all_apart_from, all_distinct_from, used_of, same_uses}
+use Rattle.mp_theorytext.proofs.Agreeing.{AllAgree, agrees, has_uses, each_has_uses, AreFine, fine-parts, all_new, new_apart, all_listed_from, all_apart_from, all_distinct_from, used_of, same_uses}
 use Rattle.mp_theorytext.proofs.SizesAndHoles.{schema_size}
 
 -- ## What stands before an item

@@ -1,76 +1,23 @@
 -- A theory's words have one reading, or are stuck at one place, and not both.
-use Rattle.std.proofs.Common.{◌≡◌, ℕ, List, [], ◌∷◌, Bool, true, false, inl, inr, refl, ap, sym, subst, ◌∙◌, length, true≢false, Some}
+use Rattle.std.proofs.Common.{◌≡◌, List, [], ◌∷◌, inl, inr, ap, sym, subst, ◌∙◌, length}
 use Rattle.mp_logic.specs.declared.sym.Sym.{Sym}
 use Rattle.mp_term.specs.declared.term.Param.{Param}
 use Rattle.mp_term.specs.declared.term.Param.TheVariants as param
 use Rattle.mp_schema.specs.declared.pattern.ParamPat.{ParamPat}
 use Rattle.mp_schema.specs.declared.pattern.ParamPat.TheVariants.{Lit, Hole}
 use Rattle.mp_termtext.specs.declared.word.Word.{Word}
-use Rattle.mp_termtext.specs.declared.word.Mark.{Mark}
 use Rattle.mp_termtext.specs.declared.word.Mark.TheVariants as mark
 use Rattle.mp_termtext.specs.declared.word.Keyword.TheVariants as keyword
-use Rattle.mp_termtext.specs.declared.raw.Binder.{Binder}
-use Rattle.mp_termtext.specs.Parts.{No, Lacks, LacksSign, Both, StuckBoth, After, StuckAfter, StuckOptional, Optional, Separated, StuckSeparated, Listed, StuckListed, IsMark, IsWord, IsName, IsCap, IsCapVar, HasOne, AreApart, HasOneStop, OneReading}
-use Rattle.mp_termtext.specs.Grammar.{IsVariable, IsParamWord, AreBinders, StuckBinders}
+use Rattle.mp_termtext.specs.Parts.{Lacks, Ended, StuckEnded, IsNameAt, IsCapAt, Both, StuckBoth, After, StuckAfter, StuckOptional, Separated, StuckSeparated, IsMark, IsWord, IsName, IsCapVar, HasOne, AreApart, HasOneStop, OneReading}
+use Rattle.mp_termtext.specs.Grammar.{IsVariable, IsParamWord}
 use Rattle.mp_termtext.proofs.OneTerm.{one_binders}
-use Rattle.mp_termtext.proofs.Combine.{SignHasOne, one_mark, one_word, two_marks, one_lacks, one_name, one_cap, one_cap_var, one_both, one_after, one_optional, one_many, one_separated, one_listed}
-use Rattle.mp_theorytext.specs.declared.raw.RawName.{RawName}
-use Rattle.mp_theorytext.specs.declared.raw.RawParamPat.{RawParamPat}
+use Rattle.mp_termtext.proofs.Combine.{one_mark, one_word, two_marks, one_name, one_name_at, one_cap_at, one_cap_var, one_placed, one_ended, one_both, one_after, one_optional, one_many, one_separated, one_listed}
+use Rattle.mp_termtext.specs.declared.raw.RawName.{RawName}
 use Rattle.mp_theorytext.specs.declared.raw.RawPatternBound.{RawPatternBound}
 use Rattle.mp_theorytext.specs.declared.raw.RawPattern.{RawPattern, Var, Op, Meta}
-use Rattle.mp_theorytext.specs.declared.raw.RawItem.{RawItem}
 use Rattle.mp_theorytext.specs.declared.raw.RawItem.TheVariants as item
 use Rattle.mp_theorytext.specs.declared.raw.RawSchema.{RawSchema}
-use Rattle.mp_theorytext.specs.declared.raw.RawRule.{RawRule}
-use Rattle.mp_theorytext.specs.Grammar.{Ended, StuckEnded, IsNameAt, IsContextName, IsParamPatWord, IsParamPat, StuckParamPat, AreParamPats, StuckParamPats, AreContexts, StuckContexts, IsPattern, AreArguments, AreArgs, AreSubs, AreBounds, IsBound, StuckPattern, StuckArguments, StuckArgs, StuckSubs, StuckBounds, StuckBound, variable, second_order, operator, no_arguments, some_arguments, last_arg, more_args, no_subs, some_subs, last_bound, more_bounds, bound, no_pattern, in_contexts, in_arguments, in_params, in_subs, in_brackets, in_arg, behind_arg, in_other_args, in_braces, in_bound, behind_bound, in_other_bounds, in_binders, in_body, IsContext, StuckContext, IsHypothesis, StuckHypothesis, IsItem, StuckItem, AreItems, StuckItems, IsSchema, StuckSchema, ArePremises, StuckPremises, IsRuleName, StuckRuleName, IsRule, StuckRule, IsTheory, StuckTheory}
-
--- a part with its place has one reading where the part has
-module _ {X Y : Type 0} (A : X → List Word → List Word → Type 0) (SA : List Word → List Word → Type 0) (a : OneReading A SA) (part : Y → X) (left : Y → ℕ) (same : (y z : Y) → part y ≡ part z → left y ≡ left z → y ≡ z) where
-  abbrev Placed : Y → List Word → List Word → Type 0
-  Placed y ts rest = A (part y) ts rest × (left y ≡ length ts)
-
-  placed_has_one : HasOne Placed
-  placed_has_one y z ts r s h k = let e = a.value (part y) (part z) ts r s h.0 k.0 in (same y z e.0 (h.1 ∙ sym k.1), e.1)
-
-  one_placed : OneReading Placed SA
-  one_placed = record { value = placed_has_one; apart = λ y ts r s h k. a.apart (part y) ts r s h k.0; stop = a.stop }
-
--- so has a part with its end
-module _ {X : Type 0} (A : X → List Word → List Word → Type 0) (SA S : List Word → List Word → Type 0) (a : OneReading A SA) (one : SignHasOne S) where
-  ended_has_one : HasOne (Ended A S)
-  ended_has_one x y ts r s h k =
-      let e = a.value x y ts h.0 k.0 h.1 k.1 in (e.0, one k.0 r s (subst (λ us. S us r) e.1 h.2) k.2)
-
-  ended_apart : AreApart (Ended A S) (StuckEnded A SA S)
-  ended_apart x ts r s (inl h) k = a.apart x ts k.0 s h k.1
-  ended_apart x ts r s (inr h) k =
-      let e = a.value h.0 x ts h.1 k.0 h.2 k.1 in h.3.0 r (subst (λ us. S us r) (sym e.1) k.2)
-
-  ended_stop : HasOneStop (StuckEnded A SA S)
-  ended_stop ts r s (inl h) (inl k) = a.stop ts r s h k
-  ended_stop ts r s (inl h) (inr k) = absurd (a.apart k.0 ts k.1 r h k.2)
-  ended_stop ts r s (inr h) (inl k) = absurd (a.apart h.0 ts h.1 s k h.2)
-  ended_stop ts r s (inr h) (inr k) = let e = a.value h.0 k.0 ts h.1 k.1 h.2 k.2 in h.3.1 ∙ e.1 ∙ sym k.3.1
-
-  one_ended : OneReading (Ended A S) (StuckEnded A SA S)
-  one_ended = record { value = ended_has_one; apart = ended_apart; stop = ended_stop }
-
-same_name_at : (n m : RawName) → n.name ≡ m.name → n.left ≡ m.left → n ≡ m
-same_name_at n m e f = λ i. record { name = e i; left = f i }
-
-name_at_has_one : HasOne IsNameAt
-name_at_has_one n m ts r s h k =
-    let e = one_name.value n.name m.name ts r s h.0 k.0 in (same_name_at n m e.0 (h.1 ∙ sym k.1), e.1)
-
-one_name_at : OneReading IsNameAt (Lacks IsNameAt)
-one_name_at = one_lacks IsNameAt name_at_has_one
-
-context_name_has_one : HasOne IsContextName
-context_name_has_one n m ts r s h k =
-    let e = one_cap.value n.name m.name ts r s h.0 k.0 in (same_name_at n m e.0 (h.1 ∙ sym k.1), e.1)
-
-one_context_name : OneReading IsContextName (Lacks IsContextName)
-one_context_name = one_lacks IsContextName context_name_has_one
+use Rattle.mp_theorytext.specs.Grammar.{IsParamPatWord, IsParamPat, StuckParamPat, AreParamPats, StuckParamPats, AreContexts, StuckContexts, IsPattern, AreArguments, AreArgs, AreSubs, AreBounds, IsBound, StuckPattern, StuckArguments, StuckArgs, StuckSubs, StuckBounds, StuckBound, variable, second_order, operator, no_arguments, some_arguments, last_arg, more_args, no_subs, some_subs, last_bound, more_bounds, bound, no_pattern, in_contexts, in_arguments, in_params, in_subs, in_brackets, in_arg, behind_arg, in_other_args, in_braces, in_bound, behind_bound, in_other_bounds, in_binders, in_body, IsContext, StuckContext, IsHypothesis, StuckHypothesis, IsItem, StuckItem, AreItems, StuckItems, IsSchema, StuckSchema, ArePremises, StuckPremises, IsRuleName, StuckRuleName, IsRule, StuckRule, IsTheory, StuckTheory}
 
 variable_has_one : HasOne IsVariable
 variable_has_one v w ts r s h k = let a : v.0 ≡ w.0 = cc in let b : v.1 ≡ w.1 = cc in let c : r ≡ s = cc in ((λ i. (a i, b i)), c)
@@ -121,8 +68,8 @@ one_param_pats =
 
 one_contexts : OneReading AreContexts StuckContexts
 one_contexts =
-    one_optional (IsMark mark.Less) (Separated IsContextName (IsMark mark.Semicolon) (IsMark mark.Greater)) (StuckSeparated IsContextName (Lacks IsContextName) (IsMark mark.Semicolon) (IsMark mark.Greater)) (one_mark mark.Less)
-    (one_separated IsContextName (Lacks IsContextName) one_context_name (IsMark mark.Semicolon) (IsMark mark.Greater) (one_mark mark.Semicolon) (one_mark mark.Greater)) []
+    one_optional (IsMark mark.Less) (Separated IsCapAt (IsMark mark.Semicolon) (IsMark mark.Greater)) (StuckSeparated IsCapAt (Lacks IsCapAt) (IsMark mark.Semicolon) (IsMark mark.Greater)) (one_mark mark.Less)
+    (one_separated IsCapAt (Lacks IsCapAt) one_cap_at (IsMark mark.Semicolon) (IsMark mark.Greater) (one_mark mark.Semicolon) (one_mark mark.Greater)) []
 
 variable_no_meta : (v : Sym × _) (n : Sym) (ts us vs : List Word) → IsVariable v ts us → IsCapVar n ts vs → ⊥
 variable_no_meta v n ts us vs h k = cc
@@ -372,7 +319,7 @@ one_arguments = record { value = arguments_has_one; apart = arguments_apart; sto
 
 one_context : OneReading IsContext StuckContext
 one_context =
-    one_both IsContextName (Both AreContexts (Ended AreArguments (IsMark mark.Greater))) (Lacks IsContextName) (StuckBoth AreContexts StuckContexts (StuckEnded AreArguments StuckArguments (IsMark mark.Greater))) one_context_name
+    one_both IsCapAt (Both AreContexts (Ended AreArguments (IsMark mark.Greater))) (Lacks IsCapAt) (StuckBoth AreContexts StuckContexts (StuckEnded AreArguments StuckArguments (IsMark mark.Greater))) one_cap_at
     (one_both AreContexts (Ended AreArguments (IsMark mark.Greater)) StuckContexts (StuckEnded AreArguments StuckArguments (IsMark mark.Greater)) one_contexts
     (one_ended AreArguments StuckArguments (IsMark mark.Greater) one_arguments (one_mark mark.Greater)))
 

@@ -1,10 +1,10 @@
 -- Rules without static faults are added one after the other, and none is refused.
-use Rattle.std.proofs.Common.{◌≡◌, ◌≢◌, ℕ, ◌+◌, ◌<◌, ◌≤◌, ◌++◌, List, [], ◌∷◌, map, length, length-append, take, drop, get_or, Bool, true, false, ◌||◌, cond, nat_eq, nat_lt, position, Option, Some, None, Err, refl, ap, sym, subst, ◌∙◌, arith}
+use Rattle.std.proofs.Common.{◌≡◌, ℕ, ◌+◌, ◌<◌, ◌++◌, List, [], ◌∷◌, map, length, take, drop, get_or, Bool, true, false, ◌||◌, cond, nat_eq, nat_lt, Option, Some, None, Err, refl, ap, sym, subst, ◌∙◌, arith}
 use Rattle.std.specs.Prelude.{if◌then◌else◌, is_some}
 use Rattle.std.specs.List.{position_or_len}
 use Rattle.std.proofs.lemmas.Bool.Decides.{nat_tests}
 use Rattle.std.proofs.lemmas.Grind.{common_steps}
-use Rattle.std.proofs.lemmas.List.{take_more, length-map}
+use Rattle.std.proofs.lemmas.List.{take_more}
 use Rattle.mp_logic.specs.declared.sym.Sym.{Sym}
 use Rattle.mp_schema.specs.declared.schema.Schema.{Schema}
 use Rattle.mp_schema.specs.declared.fault.SchemaFault.{SchemaFault}
@@ -13,7 +13,7 @@ use Rattle.mp_schema.specs.Faults.{rule_fault_of}
 use Rattle.mp_theory.specs.declared.rule.Rule.{Rule}
 use Rattle.mp_theory.specs.declared.theory.TheoryErr.{TheoryErr}
 use Rattle.mp_theory.specs.declared.theory.TheoryErr.TheVariants as err
-use Rattle.mp_theory.specs.Tables.{has_name, place_of, refusal_by, refusal_of, IsRefusal}
+use Rattle.mp_theory.specs.Tables.{has_name, refusal_by, refusal_of, IsRefusal}
 use Rattle.mp_termtext.specs.declared.fail.TextWhy.TheVariants as why
 use Rattle.mp_termtext.specs.Faults.{fault_if}
 use Rattle.mp_termtext.proofs.Faultless.{nil_parts, no_fault}

@@ -1,5 +1,5 @@
 -- The uses of a rule, one after the other.
-use Rattle.std.proofs.Common.{◌≡◌, ◌++◌, ◌+◌, ◌<◌, ◌≤◌, ℕ, suc, List, [], ◌∷◌, Option, Bool, true, false, nat_eq, ◌&&◌, ap, sym, refl, ◌∙◌, map, drop, length, get_or, drop-cons, add-one, append_assoc, rules, if◌then◌else◌}
+use Rattle.std.proofs.Common.{◌≡◌, ◌++◌, ◌+◌, ◌<◌, ◌≤◌, ℕ, suc, List, [], ◌∷◌, Option, Bool, true, false, nat_eq, ◌&&◌, ap, sym, refl, ◌∙◌, map, drop, length, get_or, drop-cons, add-one, append_assoc, rules}
 use Rattle.std.specs.List.{flat_map}
 use Rattle.std.proofs.Math.ListN.{drop_of_length-le}
 use Rattle.std.proofs.lemmas.Simd.{map-map}
@@ -9,7 +9,7 @@ use Rattle.mp_schema.specs.Faults.{same_names}
 use Rattle.mp_termtext.specs.declared.fault.Fault.{Fault}
 use Rattle.mp_termtext.specs.Faults.{least_from}
 use Rattle.mp_termtext.proofs.Soonest.{least_from_append}
-use Rattle.mp_theorytext.specs.declared.raw.RawName.{RawName}
+use Rattle.mp_termtext.specs.declared.raw.RawName.{RawName}
 use Rattle.mp_theorytext.specs.declared.raw.RawPatternBound.{RawPatternBound}
 use Rattle.mp_theorytext.specs.declared.raw.RawParamPat.{RawParamPat}
 use Rattle.mp_theorytext.specs.declared.raw.RawPattern.{RawPattern, the_lemmas}

@@ -3,7 +3,7 @@
 --   item = < Cap ctxs? args? > | Small : pat     ctxs = < Cap (; Cap)* >     args = [ pat (; pat)* ]
 --   pat = SmallVar | CapVar ctxs? args? | Small pparams? psubs?     pparams = [ pparam (; pparam)* ]
 --   pparam = Num | Str | @ Small     psubs = { pbound (; pbound)* }     pbound = binders? pat
-use Rattle.std.specs.Prelude.{◌≡◌, ◌⊎◌, ℕ, List, [], ◌∷◌, length, Option, None, Some}
+use Rattle.std.specs.Prelude.{◌≡◌, ◌⊎◌, ℕ, List, [], ◌∷◌, length, Option}
 use Rattle.mp_logic.specs.declared.sym.Sym.{Sym}
 use Rattle.mp_schema.specs.declared.pattern.ParamPat.{ParamPat}
 use Rattle.mp_schema.specs.declared.pattern.ParamPat.TheVariants.{Lit, Hole}
@@ -11,7 +11,7 @@ use Rattle.mp_termtext.specs.declared.word.Word.{Word}
 use Rattle.mp_termtext.specs.declared.word.Mark.TheVariants as mark
 use Rattle.mp_termtext.specs.declared.word.Keyword.TheVariants as keyword
 use Rattle.mp_termtext.specs.declared.raw.Binder.{Binder}
-use Rattle.mp_theorytext.specs.declared.raw.RawName.{RawName}
+use Rattle.mp_termtext.specs.declared.raw.RawName.{RawName}
 use Rattle.mp_theorytext.specs.declared.raw.RawParamPat.{RawParamPat}
 use Rattle.mp_theorytext.specs.declared.raw.RawPatternBound.{RawPatternBound}
 use Rattle.mp_theorytext.specs.declared.raw.RawPattern.{RawPattern, Var, Op, Meta}
@@ -19,23 +19,8 @@ use Rattle.mp_theorytext.specs.declared.raw.RawItem.{RawItem}
 use Rattle.mp_theorytext.specs.declared.raw.RawItem.TheVariants as item
 use Rattle.mp_theorytext.specs.declared.raw.RawSchema.{RawSchema}
 use Rattle.mp_theorytext.specs.declared.raw.RawRule.{RawRule}
-use Rattle.mp_termtext.specs.Parts.{Part, Sign, Stop, No, None_of, Lacks, LacksSign, IsMark, IsWord, IsName, IsCap, IsCapVar, Both, StuckBoth, After, StuckAfter, Optional, StuckOptional, Separated, StuckSeparated, Listed, StuckListed, Many, StuckMany}
+use Rattle.mp_termtext.specs.Parts.{No, None_of, Lacks, IsMark, IsWord, IsName, IsNameAt, IsCapAt, IsCapVar, Ended, StuckEnded, Both, StuckBoth, After, StuckAfter, Optional, StuckOptional, Separated, StuckSeparated, Listed, StuckListed, Many, StuckMany}
 use Rattle.mp_termtext.specs.Grammar.{IsVariable, IsParamWord, AreBinders, StuckBinders}
-
--- first the part, then the sign
-abbrev pub Ended : {X : Type 0} → Part X → Sign → Part X
-Ended A S x ts rest = (us : List Word) × A x ts us × S us rest
-
-abbrev pub StuckEnded : {X : Type 0} → Part X → Stop → Sign → Stop
-StuckEnded {X} A SA S ts rest = SA ts rest ⊎ ((x : X) × (us : List Word) × A x ts us × LacksSign S us rest)
-
--- a name that begins with a small letter, and its place
-abbrev pub IsNameAt : RawName → List Word → List Word → Type 0
-IsNameAt n ts rest = IsName n.name ts rest × (n.left ≡ length ts)
-
--- a context's name, and its place
-abbrev pub IsContextName : RawName → List Word → List Word → Type 0
-IsContextName n ts rest = IsCap n.name ts rest × (n.left ≡ length ts)
 
 abbrev pub IsParamPatWord : ParamPat → List Word → List Word → Type 0
 IsParamPatWord (Lit p) ts rest = IsParamWord p ts rest
@@ -58,10 +43,10 @@ StuckParamPats = StuckOptional (IsMark mark.OpenBracket) (StuckSeparated IsParam
 
 -- < Cap (; Cap)* >, or nothing
 abbrev pub AreContexts : List RawName → List Word → List Word → Type 0
-AreContexts = Optional (IsMark mark.Less) [] (Separated IsContextName (IsMark mark.Semicolon) (IsMark mark.Greater))
+AreContexts = Optional (IsMark mark.Less) [] (Separated IsCapAt (IsMark mark.Semicolon) (IsMark mark.Greater))
 
 abbrev pub StuckContexts : List Word → List Word → Type 0
-StuckContexts = StuckOptional (IsMark mark.Less) (StuckSeparated IsContextName (Lacks IsContextName) (IsMark mark.Semicolon) (IsMark mark.Greater))
+StuckContexts = StuckOptional (IsMark mark.Less) (StuckSeparated IsCapAt (Lacks IsCapAt) (IsMark mark.Semicolon) (IsMark mark.Greater))
 
 mutual
   -- the pattern stands at the front of the words, and these are left
@@ -125,10 +110,10 @@ mutual
 
 -- Cap ctxs? args? >
 abbrev pub IsContext : RawName × (List RawName × List RawPattern) → List Word → List Word → Type 0
-IsContext = Both IsContextName (Both AreContexts (Ended AreArguments (IsMark mark.Greater)))
+IsContext = Both IsCapAt (Both AreContexts (Ended AreArguments (IsMark mark.Greater)))
 
 abbrev pub StuckContext : List Word → List Word → Type 0
-StuckContext = StuckBoth IsContextName (Lacks IsContextName) (StuckBoth AreContexts StuckContexts (StuckEnded AreArguments StuckArguments (IsMark mark.Greater)))
+StuckContext = StuckBoth IsCapAt (Lacks IsCapAt) (StuckBoth AreContexts StuckContexts (StuckEnded AreArguments StuckArguments (IsMark mark.Greater)))
 
 -- Small : pat
 abbrev pub IsHypothesis : Sym × RawPattern → List Word → List Word → Type 0

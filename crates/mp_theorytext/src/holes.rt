@@ -4,11 +4,11 @@ ghost use Rattle.mp_termtext.specs.Faults.{least_from};
 ghost use Rattle.mp_theorytext.specs.Scopes.{names_in};
 ghost use Rattle.mp_theorytext.specs.Uses.{hole_faults, holes_in_param, raw_holes, raw_bound_holes, raw_item_holes, raw_schema_holes};
 
-use crate::raw::{RawItem, RawName, RawParamPat, RawPattern, RawPatternBound, RawSchema};
+use crate::raw::{RawItem, RawParamPat, RawPattern, RawPatternBound, RawSchema};
 use crate::scope::has_raw_name;
 use mp_logic::{List, NoMemory};
 use mp_schema::ParamPat;
-use mp_termtext::{Fault, TextWhy, behind, sooner_of};
+use mp_termtext::{Fault, RawName, TextWhy, behind, sooner_of};
 
 /// Appends the holes of schemata, in the order of the text.
 pub(crate) fn gather_schemata(raws: &[RawSchema], holes: &mut List<RawName>) -> Result<(), NoMemory>

@@ -18,7 +18,7 @@ mod value;
 pub use laws::{one_reading, one_text};
 pub use making::build_theory;
 pub use pattern::{parse_arguments, parse_contexts, parse_pattern};
-pub use raw::{RawItem, RawName, RawParamPat, RawPattern, RawPatternBound, RawRule, RawSchema};
+pub use raw::{RawItem, RawParamPat, RawPattern, RawPatternBound, RawRule, RawSchema};
 pub use reading::read_theory;
 pub use rule::parse_theory;
 pub use statics::theory_fault;

@@ -1,29 +1,31 @@
 ghost use Rattle.std.specs.Prelude.{◌<◌, ◌≤◌, length, IfOk};
-ghost use Rattle.mp_termtext.specs.Parts.{Lacks, Reads};
-ghost use Rattle.mp_theorytext.specs.Grammar.{IsContextName, IsParamPat, StuckParamPat, AreParamPats, StuckParamPats, AreContexts, StuckContexts, IsPattern, StuckPattern, AreArgs, StuckArgs, AreArguments, StuckArguments, AreSubs, StuckSubs, AreBounds, StuckBounds, IsBound, StuckBound};
+ghost use Rattle.mp_termtext.specs.Parts.{IsCapAt, Lacks, Reads};
+ghost use Rattle.mp_theorytext.specs.Grammar.{IsParamPat, StuckParamPat, AreParamPats, StuckParamPats, AreContexts, StuckContexts, IsPattern, StuckPattern, AreArgs, StuckArgs, AreArguments, StuckArguments, AreSubs, StuckSubs, AreBounds, StuckBounds, IsBound, StuckBound};
 
-use crate::raw::{RawName, RawParamPat, RawPattern, RawPatternBound};
+use crate::raw::{RawParamPat, RawPattern, RawPatternBound};
 use mp_logic::List;
 use mp_schema::ParamPat;
 use mp_term::Param;
 use mp_termtext::{
-    Mark, ReadFail, Reader, Word, capital, capital_variable, mark, name, parse_binders, separated,
-    stuck, variable,
+    Mark, RawName, ReadFail, Reader, Word, capital_at, capital_variable, mark, name, parse_binders,
+    separated, stuck, variable,
 };
 use std::alloc::Global;
 
-impl Reader for RawName {
+/// The reader of a context's name.
+pub(crate) struct Context;
+
+impl Reader for Context {
     type Raw = RawName;
 
-    ghost is = { IsContextName };
+    ghost is = { IsCapAt };
 
-    ghost stops = { Lacks IsContextName };
+    ghost stops = { Lacks IsCapAt };
 
-    /// Reads a context's name.
+    /// Reads a name with a capital letter.
     fn read(_alloc: Global, words: &[Word]) -> Result<(RawName, &[Word]), ReadFail> {
-        let left = words.len() as u64;
-        match capital(words) {
-            Some((name, rest)) => Ok((RawName { name, left }, rest)),
+        match capital_at(words) {
+            Some(read) => Ok(read),
             None => Err(stuck(words)),
         }
     }
@@ -79,7 +81,7 @@ pub fn parse_contexts(alloc: Global, words: &[Word]) -> Result<(List<RawName>, &
     ensures within { IfOk result (λ x. length x.1.now ≤ length words.now) }
 {
     match mark(words, Mark::Less) {
-        Some(inner) => separated::<RawName>(alloc, inner, Mark::Semicolon, Mark::Greater),
+        Some(inner) => separated::<Context>(alloc, inner, Mark::Semicolon, Mark::Greater),
         None => Ok((List::new(alloc), words)),
     }
 }

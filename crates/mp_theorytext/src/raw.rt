@@ -1,13 +1,6 @@
 use mp_logic::{List, Sym};
 use mp_schema::ParamPat;
-use mp_termtext::Binder;
-
-/// A name as it is written, and how many words are left where it stands, itself among them.
-#[derive(Clone, Copy, Debug, PartialEq, Eq)]
-pub struct RawName {
-    pub name: Sym,
-    pub left: u64,
-}
+use mp_termtext::{Binder, RawName};
 
 /// A parameter of a pattern as it is written, and how many words are left where it begins. The name of a hole is
 /// its second word.

@@ -2,11 +2,12 @@ ghost use Rattle.std.specs.Prelude.{◌<◌, ◌≤◌, [], length, IfOk};
 ghost use Rattle.mp_termtext.specs.Parts.{Reads};
 ghost use Rattle.mp_theorytext.specs.Grammar.{IsHypothesis, StuckHypothesis, IsContext, StuckContext, IsItem, StuckItem, IsSchema, StuckSchema, IsRuleName, StuckRuleName, IsRule, StuckRule, IsTheory, StuckTheory};
 
-use crate::pattern::{parse_arguments, parse_contexts, parse_pattern};
-use crate::raw::{RawItem, RawName, RawPattern, RawRule, RawSchema};
+use crate::pattern::{Context, parse_arguments, parse_contexts, parse_pattern};
+use crate::raw::{RawItem, RawPattern, RawRule, RawSchema};
 use mp_logic::{List, Sym};
 use mp_termtext::{
-    Keyword, Mark, ReadFail, Reader, Word, capital, keyword, listed, many, mark, name, stuck,
+    Keyword, Mark, RawName, ReadFail, Reader, Word, keyword, listed, many, mark, name, name_at,
+    stuck,
 };
 use std::alloc::Global;
 
@@ -35,7 +36,7 @@ fn parse_context(
     ensures reads { Reads (λ x. ((x.0, (x.1, x.2)), x.3.now)) IsContext StuckContext words.now result }
     ensures shorter { IfOk result (λ x. length x.3.now < length words.now) }
 {
-    let (name, at) = RawName::read(alloc, words)?;
+    let (name, at) = Context::read(alloc, words)?;
     let (ctxs, at) = parse_contexts(alloc, at)?;
     let (args, at) = parse_arguments(alloc, at)?;
     match mark(at, Mark::Greater) {
@@ -111,9 +112,8 @@ fn parse_rule_name(words: &[Word]) -> Result<(RawName, &[Word]), ReadFail>
     let Some(at) = keyword(words, Keyword::Rule) else {
         return Err(stuck(words));
     };
-    let left = at.len() as u64;
-    match name(at) {
-        Some((name, rest)) => Ok((RawName { name, left }, rest)),
+    match name_at(at) {
+        Some(read) => Ok(read),
         None => Err(stuck(at)),
     }
 }

@@ -2,8 +2,8 @@ ghost use Rattle.std.specs.Prelude.{◌≡◌};
 ghost use Rattle.mp_schema.specs.Conditions.{has};
 ghost use Rattle.mp_theorytext.specs.Scopes.{names_in};
 
-use crate::raw::RawName;
 use mp_logic::Sym;
+use mp_termtext::RawName;
 
 pub(crate) fn has_name(names: &[Sym], name: Sym) -> bool
     ensures { result ≡ has names.now name }

@@ -3,19 +3,20 @@ ghost use Rattle.std.specs.List.{flat_map};
 ghost use Rattle.mp_logic.specs.Trees.{counted};
 ghost use Rattle.mp_termtext.specs.declared.fail.TextWhy.TheVariants as why;
 ghost use Rattle.mp_termtext.specs.Faults.{fault_if, least, least_from, too_many};
-ghost use Rattle.mp_schema.specs.Conditions.{has};
+ghost use Rattle.mp_names.specs.Sets.{is_met, with_met};
 ghost use Rattle.mp_theorytext.specs.Scopes.{contexts_past, contexts_behind, env_past, env_behind, names_in};
 ghost use Rattle.mp_theorytext.specs.Statics.{concl_item_faults, contexts_of, item_faults, item_left, item_node_faults, items_faults, premise_item_faults, premises_faults, rule_faults, rules_faults, schema_faults, theory_faults, twice_faults};
 ghost use Rattle.mp_theorytext.specs.Uses.{firsts_after, hole_faults, raw_schema_holes, uses_faults, uses_in_item, uses_in_items, uses_in_schema, uses_in_rule};
 
 use crate::holes::{check_holes, gather_schema, gather_schemata};
 use crate::nodes::{check_argument_nodes, check_nodes};
-use crate::raw::{RawItem, RawName, RawRule, RawSchema};
+use crate::raw::{RawItem, RawRule, RawSchema};
 use crate::scope::has_name;
 use crate::size::schema_size;
 use crate::uses::{First, Place, check_argument_uses, check_use, check_uses};
 use mp_logic::{List, NoMemory, Sym};
-use mp_termtext::{Fault, TextWhy, behind, sooner_of};
+use mp_names::NameSet;
+use mp_termtext::{Fault, RawName, TextWhy, behind, sooner_of};
 use std::alloc::Global;
 
 /// The most premises of a rule.
@@ -369,13 +370,20 @@ fn check_rule(alloc: Global, raw: &RawRule, held: Option<Fault>) -> Result<Optio
     Ok(found)
 }
 
-fn check_taken(held: Option<Fault>, taken: &[Sym], name: RawName) -> Option<Fault>
-    ensures { result ≡ least_from held (fault_if (has taken.now name.name) name.left why.Taken) }
+// Meets the name of a rule, behind the names of the rules before.
+fn check_taken(
+    held: Option<Fault>,
+    met: &mut NameSet,
+    name: RawName,
+) -> Result<Option<Fault>, NoMemory>
+    ensures fault { IfOk result (λ found. found ≡ least_from held (fault_if (is_met met.old name.name.0) name.left why.Taken)) }
+    ensures met { OnOk result (met.new ≡ with_met met.old name.name.0) }
 {
-    if behind(held, name.left) || !has_name(taken, name.name) {
-        held
+    let is_taken = met.meet(name.name)?;
+    if is_taken {
+        Ok(sooner_of(held, name.left, TextWhy::Taken))
     } else {
-        sooner_of(held, name.left, TextWhy::Taken)
+        Ok(held)
     }
 }
 
@@ -383,14 +391,11 @@ fn check_taken(held: Option<Fault>, taken: &[Sym], name: RawName) -> Option<Faul
 pub fn theory_fault(alloc: Global, raws: &List<RawRule>) -> Result<Option<Fault>, NoMemory>
     ensures { IfOk result (λ found. found ≡ least (theory_faults raws.now)) }
 {
-    let mut taken: Vec<Sym> = Vec::new(alloc);
+    let mut met = NameSet::new(alloc);
     let mut held = None;
     for raw in raws.as_slice() {
-        held = check_taken(held, taken.as_slice(), raw.name);
-        held = check_rule(alloc, raw, held)?;
-        if taken.push(raw.name.name).is_err() {
-            return Err(NoMemory);
-        }
+        let found = check_taken(held, &mut met, raw.name)?;
+        held = check_rule(alloc, raw, found)?;
     }
     Ok(held)
 }

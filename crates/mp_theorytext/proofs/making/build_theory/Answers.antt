@@ -1,4 +1,4 @@
-use Rattle.std.proofs.Common.{◌∷◌, [], ap, ◌∙◌, arith, length, length-append}
+use Rattle.std.proofs.Common.{◌∷◌, [], ap, arith, length, length-append}
 use Rattle.mp_theorytext.specs.Values.{written_rule}
 use Rattle.mp_theorytext.proofs.RulesMade.{here_faultless, here_free, next_faultless, next_made}
 use Rattle.mp_theorytext.proofs.making.build_theory.Goals as goal

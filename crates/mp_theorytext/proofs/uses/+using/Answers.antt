@@ -1,4 +1,4 @@
-use Rattle.std.proofs.Common.{refl, sym, ap, ◌∙◌}
+use Rattle.std.proofs.Common.{refl, sym}
 use Rattle.mp_theorytext.specs.Uses.{shown, uses_in_bound}
 use Rattle.mp_theorytext.proofs.UseSteps.{found_next, kept_next, meta_found, meta_kept, uses_in_bound-is}
 use Rattle.mp_theorytext.proofs.uses.+using.Goals as goal

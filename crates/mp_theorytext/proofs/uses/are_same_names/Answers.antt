@@ -1,4 +1,4 @@
-use Rattle.std.proofs.Common.{ℕ, List, length, ap, sym, ◌∙◌, arith}
+use Rattle.std.proofs.Common.{arith}
 use Rattle.std.proofs.lemmas.List.{length-map}
 use Rattle.mp_theorytext.specs.Scopes.{names_in}
 use Rattle.mp_theorytext.proofs.UseSteps.{other_lengths}
