@@ -1,5 +1,8 @@
 pub mod Existence
+pub mod OneSchedule
 pub mod Outcomes
 pub mod Rounding
+pub mod ScheduleFaults
+pub mod ScheduleInRange
 pub mod Scheduling
 pub mod Uniqueness

@@ -2,5 +2,9 @@ pub mod Laws
 pub mod Ranges
 pub mod Ready
 pub mod Rounds
+pub mod ScheduleGrammar
+pub mod ScheduleReading
+pub mod ScheduleStatics
+pub mod ScheduleValues
 pub mod Trace
 pub mod Workers

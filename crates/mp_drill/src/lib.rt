@@ -1,17 +1,26 @@
-//! The core under a schedule: workers claim, report, repeat, die and are lost as a list of events says.
+//! The core under a schedule: workers claim, report, repeat, die and are lost as a list of events says. Schedules as texts.
 #![tactic(auto)]
 
 mod drilling;
 mod laws;
 mod ranges;
+mod raw;
+mod reading;
 mod rounds;
 mod schedule;
+mod statics;
+mod syntax;
+mod value;
 mod workers;
 
 pub use drilling::drill;
-pub use laws::{one_trace, some_trace};
+pub use laws::{one_schedule_reading, one_schedule_text, one_trace, some_trace};
 pub use ranges::in_range;
-pub use schedule::{Event, Reply};
+pub use raw::{RawEvent, RawSection};
+pub use reading::read_schedule;
+pub use schedule::{Event, Reply, Section};
 
+#[cfg(test)]
+mod reading_tests;
 #[cfg(test)]
 mod tests;

@@ -1,3 +1,5 @@
+use mp_logic::{List, Sym};
+
 /// What happens to a core. Workers are 0 to 64; worker 0 is the caller, which neither dies nor is lost.
 #[derive(Clone, Copy, Debug, PartialEq, Eq)]
 pub enum Event {
@@ -37,4 +39,11 @@ pub enum Reply {
     Gone,
     /// The worker has nothing to report.
     Empty,
+}
+
+/// The events of a goal.
+#[derive(Drop)]
+pub struct Section {
+    pub goal: Sym,
+    pub events: List<Event>,
 }

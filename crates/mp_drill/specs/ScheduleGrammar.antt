@@ -1,0 +1,77 @@
+-- The grammar of schedules, over words.
+--   schedule = section*     section = "goal" Small event*
+--   event = "claim" Num | "send" Num Num? | "again" Num | "die" Num | "lose" Num | "reissue"
+use Rattle.std.specs.Prelude.{◌≡◌, ◌⊎◌, List, ◌∷◌, Option, Some, Bool, true, false, ◌||◌}
+use Rattle.mp_termtext.specs.declared.word.Word.{Word}
+use Rattle.mp_termtext.specs.declared.word.Word.TheVariants as word
+use Rattle.mp_termtext.specs.declared.word.Keyword.{Keyword}
+use Rattle.mp_termtext.specs.declared.word.Keyword.TheVariants as keyword
+use Rattle.mp_termtext.specs.declared.raw.RawName.{RawName}
+use Rattle.mp_termtext.specs.declared.raw.RawNumber.{RawNumber}
+use Rattle.mp_termtext.specs.Parts.{IsWord, IsNameAt, IsNumberAt, Lacks, Both, StuckBoth, After, StuckAfter, StuckOptional, IfThere, Repeated, StuckRepeated, Many, StuckMany}
+use Rattle.mp_drill.specs.declared.raw.RawEvent.{RawEvent}
+use Rattle.mp_drill.specs.declared.raw.RawEvent.TheVariants as event
+use Rattle.mp_drill.specs.declared.raw.RawSection.{RawSection}
+
+-- the word of an event that has a worker
+abbrev pub has_worker : Keyword → Bool
+has_worker keyword.Claim = true
+has_worker keyword.Send = true
+has_worker keyword.Again = true
+has_worker keyword.Die = true
+has_worker keyword.Lose = true
+has_worker other = false
+
+abbrev pub is_reissue : Keyword → Bool
+is_reissue keyword.Reissue = true
+is_reissue other = false
+
+-- the word of an event
+abbrev pub is_event_word : Keyword → Bool
+is_event_word k = has_worker k || is_reissue k
+
+-- the word in front begins an event
+abbrev pub begins_event : List Word → Bool
+begins_event (word.Small name (Some k) ∷ rest) = is_event_word k
+begins_event other = false
+
+-- a worker, and units where a second number stands
+abbrev pub IsSend : RawNumber × Option RawNumber → List Word → List Word → Type 0
+IsSend = Both IsNumberAt (IfThere IsNumberAt)
+
+abbrev pub IsEvent : RawEvent → List Word → List Word → Type 0
+IsEvent (event.Claim who) ts rest = After (IsWord keyword.Claim) IsNumberAt who ts rest
+IsEvent (event.Send who units) ts rest = After (IsWord keyword.Send) IsSend (who, units) ts rest
+IsEvent (event.Again who) ts rest = After (IsWord keyword.Again) IsNumberAt who ts rest
+IsEvent (event.Die who) ts rest = After (IsWord keyword.Die) IsNumberAt who ts rest
+IsEvent (event.Lose who) ts rest = After (IsWord keyword.Lose) IsNumberAt who ts rest
+IsEvent event.Reissue ts rest = IsWord keyword.Reissue ts rest
+
+-- the word of an event that has a worker stands at the front
+abbrev pub IsWorkerWord : List Word → List Word → Type 0
+IsWorkerWord ts rest = (k : Keyword) × IsWord k ts rest × (has_worker k ≡ true)
+
+-- no word begins an event; or it begins one, and the worker's number isn't behind it
+abbrev pub StuckEvent : List Word → List Word → Type 0
+StuckEvent ts rest = ((begins_event ts ≡ false) × (rest ≡ ts)) ⊎ StuckOptional IsWorkerWord (Lacks IsNumberAt) ts rest
+
+-- goal and a name
+abbrev pub IsGoalName : RawName → List Word → List Word → Type 0
+IsGoalName = After (IsWord keyword.Goal) IsNameAt
+
+abbrev pub StuckGoalName : List Word → List Word → Type 0
+StuckGoalName = StuckAfter (IsWord keyword.Goal) (Lacks IsNameAt)
+
+-- goal NAME, and events as long as the next word begins one
+abbrev pub IsSection : RawSection → List Word → List Word → Type 0
+IsSection s = Both IsGoalName (Repeated IsEvent begins_event) (s.goal, s.events)
+
+abbrev pub StuckSection : List Word → List Word → Type 0
+StuckSection = StuckBoth IsGoalName StuckGoalName (StuckRepeated IsEvent begins_event StuckEvent)
+
+-- the sections, and nothing behind them
+abbrev pub IsSchedule : List RawSection → List Word → List Word → Type 0
+IsSchedule = Many IsSection
+
+abbrev pub StuckSchedule : List Word → List Word → Type 0
+StuckSchedule = StuckMany IsSection StuckSection

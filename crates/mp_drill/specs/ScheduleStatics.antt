@@ -1,0 +1,51 @@
+-- The static rules of schedules as they are written.
+use Rattle.std.specs.Prelude.{ℕ, ℤ, pos, negsuc, ◌++◌, List, [], ◌∷◌, Option, None, Some, Bool, false, not, ◌&&◌, nat_le}
+use Rattle.std.specs.List.{flat_map}
+use Rattle.mp_logic.specs.declared.sym.Sym.{Sym}
+use Rattle.mp_names.specs.Sets.{is_among}
+use Rattle.mp_termtext.specs.declared.fail.TextWhy.TheVariants as why
+use Rattle.mp_termtext.specs.declared.fault.Fault.{Fault}
+use Rattle.mp_termtext.specs.declared.raw.RawName.{RawName}
+use Rattle.mp_termtext.specs.declared.raw.RawNumber.{RawNumber}
+use Rattle.mp_termtext.specs.Faults.{fault_if}
+use Rattle.mp_drill.specs.declared.raw.RawEvent.{RawEvent}
+use Rattle.mp_drill.specs.declared.raw.RawEvent.TheVariants as event
+use Rattle.mp_drill.specs.declared.raw.RawSection.{RawSection}
+
+-- a number from the least up to the most
+abbrev pub is_between : ℕ → ℕ → ℤ → Bool
+is_between least most (pos n) = nat_le least n && nat_le n most
+is_between least most (negsuc n) = false
+
+-- a number that is written is in its range
+abbrev pub number_faults : ℕ → ℕ → RawNumber → List Fault
+number_faults least most n = fault_if (not (is_between least most n.value)) n.left why.BadNumber
+
+abbrev pub units_faults : Option RawNumber → List Fault
+units_faults None = []
+units_faults (Some units) = number_faults 1 1000000 units
+
+-- workers are 0 to 64, and those that die or are lost 1 to 64; units are 1 to 1,000,000
+abbrev pub event_faults : RawEvent → List Fault
+event_faults (event.Claim who) = number_faults 0 64 who
+event_faults (event.Send who units) = number_faults 0 64 who ++ units_faults units
+event_faults (event.Again who) = number_faults 0 64 who
+event_faults (event.Die who) = number_faults 1 64 who
+event_faults (event.Lose who) = number_faults 1 64 who
+event_faults event.Reissue = []
+
+abbrev pub events_faults : List RawEvent → List Fault
+events_faults = flat_map event_faults
+
+-- a section behind sections of these names has another one, which is a goal's
+abbrev pub name_faults : List Sym → List Sym → RawName → List Fault
+name_faults goals taken n = fault_if (is_among taken n.name) n.left why.Taken ++ fault_if (not (is_among goals n.name)) n.left why.UnknownName
+
+-- the faults of sections behind sections of these names
+abbrev pub sections_faults : List Sym → List Sym → List RawSection → List Fault
+sections_faults goals taken [] = []
+sections_faults goals taken (s ∷ ss) = name_faults goals taken s.goal ++ events_faults s.events ++ sections_faults goals (taken ++ s.goal.name ∷ []) ss
+
+-- the static faults of a schedule for these goals
+abbrev pub schedule_faults : List Sym → List RawSection → List Fault
+schedule_faults goals ss = sections_faults goals [] ss

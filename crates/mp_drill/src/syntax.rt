@@ -1,0 +1,145 @@
+ghost use Rattle.std.specs.Prelude.{◌<◌, ◌≤◌, [], length, IfOk};
+ghost use Rattle.mp_termtext.specs.Parts.{IsNumberAt, IfThere, Lacks, Reads};
+ghost use Rattle.mp_drill.specs.ScheduleGrammar.{begins_event, is_event_word, IsSend, IsEvent, StuckEvent, IsGoalName, StuckGoalName, IsSection, StuckSection, IsSchedule, StuckSchedule};
+
+use crate::raw::{RawEvent, RawSection};
+use mp_logic::List;
+use mp_termtext::{
+    Beginning, Keyword, RawName, RawNumber, ReadFail, Reader, Word, keyword, many, name_at,
+    number_at, repeated, stuck,
+};
+use std::alloc::Global;
+
+/// Reads the number of a worker.
+fn parse_worker(words: &[Word]) -> Result<(RawNumber, &[Word]), ReadFail>
+    ensures reads { Reads (λ x. (x.0, x.1.now)) IsNumberAt (Lacks IsNumberAt) words.now result }
+    ensures shorter { IfOk result (λ x. length x.1.now < length words.now) }
+{
+    match number_at(words) {
+        Some(read) => Ok(read),
+        None => Err(stuck(words)),
+    }
+}
+
+/// Reads the number of units, where one stands.
+fn parse_units(words: &[Word]) -> (Option<RawNumber>, &[Word])
+    ensures reads { IfThere IsNumberAt result.0 words.now result.1.now }
+    ensures within { length result.1.now ≤ length words.now }
+{
+    match number_at(words) {
+        Some((units, rest)) => (Some(units), rest),
+        None => (None, words),
+    }
+}
+
+impl Reader for RawEvent {
+    type Raw = RawEvent;
+
+    ghost is = { IsEvent };
+
+    ghost stops = { StuckEvent };
+
+    /// Reads the word of an event, its worker and its units.
+    fn read(_alloc: Global, words: &[Word]) -> Result<(RawEvent, &[Word]), ReadFail> {
+        let Some(
+            (
+                Word::Small {
+                    keyword: Some(found),
+                    ..
+                },
+                at,
+            ),
+        ) = words.split_first()
+        else {
+            return Err(stuck(words));
+        };
+        match *found {
+            Keyword::Claim => {
+                let (who, rest) = parse_worker(at)?;
+                Ok((RawEvent::Claim(who), rest))
+            }
+            Keyword::Send => {
+                let (who, at) = parse_worker(at)?;
+                let (units, rest) = parse_units(at);
+                Ok((RawEvent::Send { who, units }, rest))
+            }
+            Keyword::Again => {
+                let (who, rest) = parse_worker(at)?;
+                Ok((RawEvent::Again(who), rest))
+            }
+            Keyword::Die => {
+                let (who, rest) = parse_worker(at)?;
+                Ok((RawEvent::Die(who), rest))
+            }
+            Keyword::Lose => {
+                let (who, rest) = parse_worker(at)?;
+                Ok((RawEvent::Lose(who), rest))
+            }
+            Keyword::Reissue => Ok((RawEvent::Reissue, at)),
+            _ => Err(stuck(words)),
+        }
+    }
+}
+
+impl Beginning for RawEvent {
+    ghost begun = { begins_event };
+
+    fn begins(words: &[Word]) -> bool {
+        match words.split_first() {
+            Some(
+                (
+                    Word::Small {
+                        keyword: Some(found),
+                        ..
+                    },
+                    _,
+                ),
+            ) => matches!(
+                found,
+                Keyword::Claim
+                    | Keyword::Send
+                    | Keyword::Again
+                    | Keyword::Die
+                    | Keyword::Lose
+                    | Keyword::Reissue
+            ),
+            _ => false,
+        }
+    }
+}
+
+/// Reads `goal` and a name.
+fn parse_goal_name(words: &[Word]) -> Result<(RawName, &[Word]), ReadFail>
+    ensures reads { Reads (λ x. (x.0, x.1.now)) IsGoalName StuckGoalName words.now result }
+    ensures shorter { IfOk result (λ x. length x.1.now < length words.now) }
+{
+    let Some(at) = keyword(words, Keyword::Goal) else {
+        return Err(stuck(words));
+    };
+    match name_at(at) {
+        Some(read) => Ok(read),
+        None => Err(stuck(at)),
+    }
+}
+
+impl Reader for RawSection {
+    type Raw = RawSection;
+
+    ghost is = { IsSection };
+
+    ghost stops = { StuckSection };
+
+    /// Reads `goal`, a name and events, as long as the next word begins one.
+    fn read(alloc: Global, words: &[Word]) -> Result<(RawSection, &[Word]), ReadFail> {
+        let (goal, at) = parse_goal_name(words)?;
+        let (events, rest) = repeated::<RawEvent>(alloc, at)?;
+        Ok((RawSection { goal, events }, rest))
+    }
+}
+
+/// Reads a schedule that is all of the words.
+pub(crate) fn parse_schedule(alloc: Global, words: &[Word]) -> Result<List<RawSection>, ReadFail>
+    ensures { Reads (λ x. (x, [])) IsSchedule StuckSchedule words.now result }
+{
+    many::<RawSection>(alloc, words)
+}
