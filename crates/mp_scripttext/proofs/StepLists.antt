@@ -1,0 +1,35 @@
+-- The steps of a chain are those of its strategies, one strategy after the other.
+use Rattle.std.proofs.Common.{◌≡◌, ℕ, zero, suc, ◌+◌, ◌<◌, ◌++◌, List, [], ◌∷◌, map, length, take, get_or, refl, sym, ap, ◌∙◌, append_assoc, append-nil, arith, rules}
+use Rattle.std.specs.List.{flat_map}
+use Rattle.std.proofs.lemmas.Grind.{flat_map-append}
+use Rattle.mp_termtext.specs.declared.fault.Fault.{Fault}
+use Rattle.mp_termtext.proofs.Faultless.{nil_parts}
+use Rattle.mp_scripttext.specs.declared.raw.RawStep.{RawStep}
+use Rattle.mp_scripttext.specs.declared.raw.RawStrategy.{RawStrategy}
+use Rattle.mp_scripttext.specs.Strategies.{Strategy, strategy_of, then_all, then_of, whole_of}
+
+-- where no item has anything, this one has nothing
+pub nil_at : {X A : Type 0} (f : X → List A) (xs : List X) (i : ℕ) (x : X) → i < length xs → x ≡ get_or xs i x → flat_map f xs ≡ [] → f x ≡ []
+nil_at f [] i x lt is h = absurd (omega (arith, lt))
+nil_at f (y ∷ ys) zero x lt is h = ap f is ∙ (nil_parts (f y) (flat_map f ys) h).0
+nil_at f (y ∷ ys) (suc i) x lt is h = nil_at f ys i x (omega (arith, lt)) is (nil_parts (f y) (flat_map f ys) h).1
+
+abbrev pub steps_in : List RawStrategy → List RawStep
+steps_in = flat_map (λ raw. (strategy_of raw).steps)
+
+then_steps : (a : Strategy) (raws : List RawStrategy) → (then_all a (map strategy_of raws)).steps ≡ a.steps ++ steps_in raws
+then_steps a [] = sym (append-nil a.steps)
+then_steps a (r ∷ raws) = then_steps (then_of a (strategy_of r)) raws ∙ append_assoc a.steps (strategy_of r).steps (steps_in raws)
+
+pub whole_steps : (raws : List RawStrategy) → (whole_of raws).steps ≡ steps_in raws
+whole_steps [] = refl
+whole_steps (r ∷ raws) = then_steps (strategy_of r) raws
+
+flat_of_flat : {X Y A : Type 0} (f : Y → List A) (g : X → List Y) (xs : List X) → flat_map f (flat_map g xs) ≡ flat_map (λ x. flat_map f (g x)) xs
+flat_of_flat f g [] = refl
+flat_of_flat f g (x ∷ xs) = flat_map-append f (g x) (flat_map g xs) ∙ ap (λ ys. flat_map f (g x) ++ ys) (flat_of_flat f g xs)
+
+-- where no step of a chain has a fault, none of a strategy in it has
+pub steps_faultless : (f : RawStep → List Fault) (raws : List RawStrategy) (i : ℕ) (raw : RawStrategy) → i < length raws → raw ≡ get_or raws i raw → flat_map f (whole_of raws).steps ≡ [] → flat_map f (strategy_of raw).steps ≡ []
+steps_faultless f raws i raw lt is h =
+    nil_at (λ r. flat_map f (strategy_of r).steps) raws i raw lt is (sym (flat_of_flat f (λ r. (strategy_of r).steps) raws) ∙ ap (flat_map f) (sym (whole_steps raws)) ∙ h)

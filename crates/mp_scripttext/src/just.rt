@@ -1,0 +1,169 @@
+ghost use Rattle.std.specs.Prelude.{◌≡◌, ◌++◌, ◌∷◌, [], length, map, IfOk, OnOk, IsTrue};
+ghost use Rattle.std.specs.List.{flat_map, list_all};
+ghost use Rattle.std.specs.Option.{option_copied};
+ghost use Rattle.mp_theory.specs.Allowed.{is_allowed};
+ghost use Rattle.mp_scripttext.specs.Statics.{given_of, missing_faults, number_faults, step_faults, term_faults};
+ghost use Rattle.mp_scripttext.specs.Strategies.{strategy_of, whole_of};
+ghost use Rattle.mp_scripttext.specs.Values.{first_of, given_for, just_of};
+
+use crate::raw::{RawGiven, RawStep, RawStrategy};
+use mp_logic::{List, NoMemory, Sym};
+use mp_termtext::{RawNumber, build_bound};
+use mp_theory::{Given, Just, Need, Theory};
+use std::alloc::Global;
+
+/// How many names are free in a given term.
+const FREE: u32 = 200;
+
+/// The first given term of this name.
+fn find_given(raws: &[RawGiven], name: Sym) -> Option<&RawGiven>
+    ensures { option_copied result ≡ given_of raws.now name }
+{
+    for raw in raws {
+        if raw.name.name.0 == name.0 {
+            return Some(raw);
+        }
+    }
+    None
+}
+
+/// What a step gives for a need.
+fn build_given(alloc: Global, step: &RawStep, need: &Need) -> Result<Given, NoMemory>
+    requires terms { flat_map term_faults step.now.given ≡ [] }
+    requires there { missing_faults step.now need.now ≡ [] }
+    ensures { IfOk result (λ given. given ≡ given_for step.now.given need.now) }
+{
+    let Some(raw) = find_given(step.given.as_slice(), need.name) else {
+        unreachable!()
+    };
+    let mut env = Vec::new(alloc);
+    let bound = build_bound(alloc, &raw.term, FREE, &mut env)?;
+    Ok(Given {
+        name: need.name,
+        arity: need.arity,
+        body: bound.body,
+    })
+}
+
+/// What a step gives, in the order of the needs.
+fn build_all_given(
+    alloc: Global,
+    step: &RawStep,
+    needs: &List<Need>,
+) -> Result<List<Given>, NoMemory>
+    requires terms { flat_map term_faults step.now.given ≡ [] }
+    requires there { flat_map (missing_faults step.now) needs.now ≡ [] }
+    ensures { IfOk result (λ given. given ≡ map (given_for step.now.given) needs.now) }
+{
+    let mut built = List::with_capacity(alloc, needs.len())?;
+    for need in needs.as_slice() {
+        let given = build_given(alloc, step, need)?;
+        if let Err((_, refused)) = built.push(given) {
+            return Err(refused);
+        }
+    }
+    Ok(built)
+}
+
+/// The size of the first context: one less than the number behind `at`.
+fn build_first(place: Option<RawNumber>) -> Option<u32>
+    requires { number_faults 1 201 place ≡ [] }
+    ensures { result ≡ first_of place }
+{
+    match place {
+        Some(number) => Some((number.value - 1) as u32),
+        None => None,
+    }
+}
+
+/// The justification of a step that keeps the static rules.
+fn build_just(alloc: Global, theory: &Theory, step: &RawStep) -> Result<Just, NoMemory>
+    requires { step_faults theory.now step.now ≡ [] }
+    ensures value { IfOk result (λ just. just ≡ just_of theory.now step.now) }
+    ensures allowed { IfOk result (λ just. IsTrue (is_allowed theory.now just)) }
+{
+    let Some(place) = theory.rule_named(step.rule.name) else {
+        unreachable!()
+    };
+    let Some(rule) = theory.rule(place) else {
+        unreachable!()
+    };
+    let given = build_all_given(alloc, step, &rule.needs)?;
+    Ok(Just::Rule {
+        rule: place,
+        first: build_first(step.place),
+        given,
+    })
+}
+
+fn push_just(
+    alloc: Global,
+    theory: &Theory,
+    step: &RawStep,
+    justs: &mut List<Just>,
+) -> Result<(), NoMemory>
+    requires faultless { step_faults theory.now step.now ≡ [] }
+    requires allowed { IsTrue (list_all (is_allowed theory.now) justs.old) }
+    ensures added { OnOk result (justs.new ≡ justs.old ++ just_of theory.now step.now ∷ []) }
+    ensures allowed { OnOk result (IsTrue (list_all (is_allowed theory.now) justs.new)) }
+{
+    let just = build_just(alloc, theory, step)?;
+    match justs.push(just) {
+        Ok(()) => Ok(()),
+        Err((_, refused)) => Err(refused),
+    }
+}
+
+/// Adds the justifications of the steps of a strategy.
+#[cycle(justs)]
+fn push_strategy(
+    alloc: Global,
+    theory: &Theory,
+    raw: &RawStrategy,
+    justs: &mut List<Just>,
+) -> Result<(), NoMemory>
+    requires faultless { flat_map (step_faults theory.now) (strategy_of raw.now).steps ≡ [] }
+    requires allowed { IsTrue (list_all (is_allowed theory.now) justs.old) }
+    ensures added { OnOk result (justs.new ≡ justs.old ++ map (just_of theory.now) (strategy_of raw.now).steps) }
+    ensures allowed { OnOk result (IsTrue (list_all (is_allowed theory.now) justs.new)) }
+{
+    match raw {
+        RawStrategy::Id => Ok(()),
+        RawStrategy::Step(step) => push_just(alloc, theory, step, justs),
+        RawStrategy::Chain(raws) => push_chain(alloc, theory, raws.as_slice(), justs),
+    }
+}
+
+/// Adds the justifications of the steps of strategies with `then` between each two.
+#[cycle(justs)]
+fn push_chain(
+    alloc: Global,
+    theory: &Theory,
+    raws: &[RawStrategy],
+    justs: &mut List<Just>,
+) -> Result<(), NoMemory>
+    requires faultless { flat_map (step_faults theory.now) (whole_of raws.now).steps ≡ [] }
+    requires allowed { IsTrue (list_all (is_allowed theory.now) justs.old) }
+    ensures added { OnOk result (justs.new ≡ justs.old ++ map (just_of theory.now) (whole_of raws.now).steps) }
+    ensures allowed { OnOk result (IsTrue (list_all (is_allowed theory.now) justs.new)) }
+{
+    for raw in raws {
+        push_strategy(alloc, theory, raw, justs)?;
+    }
+    Ok(())
+}
+
+/// A justification for each step, in the order of the text.
+pub(crate) fn build_justs(
+    alloc: Global,
+    theory: &Theory,
+    raws: &List<RawStrategy>,
+) -> Result<List<Just>, NoMemory>
+    requires { flat_map (step_faults theory.now) (whole_of raws.now).steps ≡ [] }
+    ensures value { IfOk result (λ justs. justs ≡ map (just_of theory.now) (whole_of raws.now).steps) }
+    ensures allowed { IfOk result (λ justs. IsTrue (list_all (is_allowed theory.now) justs)) }
+{
+    let mut justs = List::new(alloc);
+    push_chain(alloc, theory, raws.as_slice(), &mut justs)?;
+    Ok(justs)
+}

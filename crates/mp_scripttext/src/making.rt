@@ -1,0 +1,66 @@
+ghost use Rattle.std.specs.Prelude.{◌≡◌, ◌≤◌, [], IfOk};
+ghost use Rattle.mp_scripttext.specs.Entries.{EachGood, IsGoodEntry};
+ghost use Rattle.mp_scripttext.specs.Statics.{entry_faults, number_faults, script_faults};
+ghost use Rattle.mp_scripttext.specs.Values.{entry_of, fuel_of, script_of};
+
+use crate::just::build_justs;
+use crate::raw::RawEntry;
+use crate::script::{Entry, Script};
+use crate::table::table;
+use mp_logic::{List, NoMemory};
+use mp_termtext::{RawNumber, build_sequent};
+use mp_theory::Theory;
+use std::alloc::Global;
+
+/// The fuel where none is written.
+const DEFAULT_FUEL: u32 = 200;
+
+/// The fuel that is written.
+fn build_fuel(fuel: Option<RawNumber>) -> u32
+    requires { number_faults 0 400 fuel ≡ [] }
+    ensures value { result ≡ fuel_of fuel }
+    ensures few { result ≤ 400 }
+{
+    match fuel {
+        Some(number) => number.value as u32,
+        None => DEFAULT_FUEL,
+    }
+}
+
+/// The goal that is written, where no static rule is broken.
+fn build_entry(alloc: Global, theory: &Theory, raw: &RawEntry) -> Result<Entry, NoMemory>
+    requires faultless { entry_faults theory.now raw.now ≡ [] }
+    ensures value { IfOk result (λ entry. entry ≡ entry_of theory.now raw.now) }
+    ensures good { IfOk result (IsGoodEntry theory.now) }
+{
+    let goal = build_sequent(alloc, &raw.goal)?;
+    let justs = build_justs(alloc, theory, &raw.strategy)?;
+    let tacs = table(alloc, &raw.strategy)?;
+    Ok(Entry {
+        name: raw.name.name,
+        goal,
+        fuel: build_fuel(raw.fuel),
+        justs,
+        tacs,
+    })
+}
+
+/// The script that is written, in a theory, where no static rule is broken. Its goals can be evaluated.
+pub fn build_script(
+    alloc: Global,
+    theory: &Theory,
+    raws: &List<RawEntry>,
+) -> Result<Script, NoMemory>
+    requires faultless { script_faults theory.now raws.now ≡ [] }
+    ensures value { IfOk result (λ script. script ≡ script_of theory.now raws.now) }
+    ensures good { IfOk result (λ script. EachGood theory.now script.entries) }
+{
+    let mut entries = List::with_capacity(alloc, raws.len())?;
+    for raw in raws.as_slice() {
+        let entry = build_entry(alloc, theory, raw)?;
+        if let Err((_, refused)) = entries.push(entry) {
+            return Err(refused);
+        }
+    }
+    Ok(Script { entries })
+}

@@ -1,0 +1,43 @@
+ghost use Rattle.std.specs.Prelude.{◌<◌, ◌≤◌, ◌+◌, ◌-◌, ◌^◌, length, IfOk};
+ghost use Rattle.mp_names.specs.Table.{Extends};
+ghost use Rattle.mp_scripttext.specs.Entries.{EachGood};
+ghost use Rattle.mp_scripttext.specs.Reading.{ReadsScript};
+
+use crate::making::build_script;
+use crate::script::Script;
+use crate::statics::script_fault;
+use crate::syntax::parse_script;
+use mp_names::Names;
+use mp_termtext::{TextFail, lex_text};
+use mp_theory::Theory;
+use std::alloc::Global;
+
+/// Reads a script that is all of the text, in a theory: its goals, in the order of the text. A step may give what its rule
+/// needs in any order. Bad has the one fault of the text: the first lexical one; else Syntax, at the token at which the
+/// grammar is stuck, or at the text's length where it ends too early; else the least static one, which is Taken,
+/// UnknownName, TooMany, TooDeep, TooBig, BadNumber, UnboundVar, AtNeeded, AtRefused, MissingWith, ExtraWith, TwiceWith or
+/// BadArity. Earlier names keep their numbers, and at most as many are added as the text has bytes, also where the text
+/// is refused.
+pub fn read_script(
+    alloc: Global,
+    names: &mut Names,
+    theory: &Theory,
+    source: &[u8],
+) -> Result<Script, TextFail>
+    requires room { length names.old + length source.now < 2 ^ 32 - 1 }
+    ensures reads { ReadsScript theory.now names.old source.now result names.new }
+    ensures good { IfOk result (λ script. EachGood theory.now script.entries) }
+    ensures grown { Extends names.old names.new }
+    ensures few { length names.new ≤ length names.old + length source.now }
+{
+    let text = lex_text(alloc, names, source)?;
+    let raws = match parse_script(alloc, text.words.as_slice()) {
+        Ok(raws) => raws,
+        Err(fail) => return Err(text.stopped(source, fail)),
+    };
+    if let Some(fault) = script_fault(alloc, theory, &raws)? {
+        return Err(text.broken(source, fault));
+    }
+    let script = build_script(alloc, theory, &raws)?;
+    Ok(script)
+}

@@ -1,0 +1,98 @@
+ghost use Rattle.std.specs.Prelude.{◌≡◌, ◌<◌, ◌≤◌, length, IfOk};
+ghost use Rattle.mp_termtext.specs.Parts.{IsNameAt, IsNumberAt, IsWord, Lacks, After, StuckAfter, Led, StuckOptional, Reads};
+ghost use Rattle.mp_scripttext.specs.Grammar.{IsGiven, StuckGiven, AreSomeGiven, StuckSomeGiven, AreGiven, StuckAllGiven, IsStep, StuckStep};
+
+use crate::raw::{RawGiven, RawStep};
+use mp_logic::List;
+use mp_termtext::{
+    Keyword, Mark, RawName, RawNumber, ReadFail, Reader, Word, capital_at, keyword, mark, name_at,
+    number_at, parse_bound, separated, stuck,
+};
+use std::alloc::Global;
+
+/// Reads this word and a name.
+pub fn parse_name_behind(words: &[Word], which: Keyword) -> Result<(RawName, &[Word]), ReadFail>
+    ensures reads { Reads (λ x. (x.0, x.1.now)) (After (IsWord which) IsNameAt) (StuckAfter (IsWord which) (Lacks IsNameAt)) words.now result }
+    ensures shorter { IfOk result (λ x. length x.1.now < length words.now) }
+{
+    let Some(at) = keyword(words, which) else {
+        return Err(stuck(words));
+    };
+    match name_at(at) {
+        Some(read) => Ok(read),
+        None => Err(stuck(at)),
+    }
+}
+
+/// Reads this word and a number; there is none where the word doesn't stand.
+pub fn parse_number_behind(
+    words: &[Word],
+    which: Keyword,
+) -> Result<(Option<RawNumber>, &[Word]), ReadFail>
+    ensures reads { Reads (λ x. (x.0, x.1.now)) (Led (IsWord which) IsNumberAt) (StuckOptional (IsWord which) (Lacks IsNumberAt)) words.now result }
+    ensures within { IfOk result (λ x. length x.1.now ≤ length words.now) }
+{
+    let Some(at) = keyword(words, which) else {
+        return Ok((None, words));
+    };
+    match number_at(at) {
+        Some((number, rest)) => Ok((Some(number), rest)),
+        None => Err(stuck(at)),
+    }
+}
+
+impl Reader for RawGiven {
+    type Raw = RawGiven;
+
+    ghost is = { IsGiven };
+
+    ghost stops = { StuckGiven };
+
+    /// Reads the name of a need, `:=`, and a term with its binders, if any.
+    fn read(alloc: Global, words: &[Word]) -> Result<(RawGiven, &[Word]), ReadFail> {
+        let Some((name, at)) = capital_at(words) else {
+            return Err(stuck(words));
+        };
+        let Some(at) = mark(at, Mark::Becomes) else {
+            return Err(stuck(at));
+        };
+        let left = at.len() as u64;
+        match parse_bound(alloc, at) {
+            Ok((term, rest)) => Ok((RawGiven { name, term, left }, rest)),
+            Err(fail) => Err(fail),
+        }
+    }
+}
+
+/// Reads given terms between brackets. There is one at least.
+fn parse_some_given(alloc: Global, words: &[Word]) -> Result<(List<RawGiven>, &[Word]), ReadFail>
+    ensures reads { Reads (λ x. (x.0, x.1.now)) AreSomeGiven StuckSomeGiven words.now result }
+    ensures shorter { IfOk result (λ x. length x.1.now < length words.now) }
+{
+    match mark(words, Mark::OpenBracket) {
+        Some(inner) => separated::<RawGiven>(alloc, inner, Mark::Semicolon, Mark::CloseBracket),
+        None => Err(stuck(words)),
+    }
+}
+
+/// Reads the given terms behind `with`; there are none where `with` doesn't stand.
+fn parse_given(alloc: Global, words: &[Word]) -> Result<(List<RawGiven>, &[Word]), ReadFail>
+    ensures reads { Reads (λ x. (x.0, x.1.now)) AreGiven StuckAllGiven words.now result }
+    ensures within { IfOk result (λ x. length x.1.now ≤ length words.now) }
+{
+    match keyword(words, Keyword::With) {
+        Some(at) => parse_some_given(alloc, at),
+        None => Ok((List::new(alloc), words)),
+    }
+}
+
+/// Reads a step by a rule at the front of the words.
+pub fn parse_step(alloc: Global, words: &[Word]) -> Result<(RawStep, &[Word]), ReadFail>
+    ensures reads { Reads (λ x. (x.0, x.1.now)) IsStep StuckStep words.now result }
+    ensures shorter { IfOk result (λ x. length x.1.now < length words.now) }
+{
+    let (rule, at) = parse_name_behind(words, Keyword::Rule)?;
+    let (place, at) = parse_number_behind(at, Keyword::At)?;
+    let (given, rest) = parse_given(alloc, at)?;
+    Ok((RawStep { rule, place, given }, rest))
+}
