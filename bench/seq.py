@@ -1,10 +1,9 @@
 #!/usr/bin/env python3
-"""How long `metatac seq` takes on a long theory and on a large goal; run by hand, at the top of the repository, once
-the program is built (`rt run` in crates/metatac leaves it as out/metatac).
+"""How long `metatac seq` takes on long theories, large goals, scripts of many goals and trees of many lines; run by hand,
+at the top of the repository, once the program is built (`rt run` in crates/metatac leaves it as out/metatac).
 
 usage: bench/seq.py [PROGRAM] [RUNS]
-For each size it makes a theory of distinct rules of about 170 bytes, the last two of which are used, and a script of
-one goal, and prints the least wall time and the least processor time of RUNS runs (5 if left out). What the program
+It prints the least wall time and the least processor time of RUNS runs (5 if left out) for each size. What the program
 must print is compared.
 """
 import resource
@@ -52,13 +51,9 @@ def processor_time():
     return used.ru_utime + used.ru_stime
 
 
-def measure(program, runs, size, nodes):
-    whole, first, second = goal(nodes)
-    due = f"goal g: closed\nrule and_i | >- {whole}\n  rule any_i | >- {first}\n  rule any_i | >- {second}\n"
+def run(program, runs, label, theory_text, script, due):
     with tempfile.TemporaryDirectory() as folder:
-        text = theory(size)
-        Path(folder, "t").write_text(text)
-        script = f"goal g fuel 5 : >- {whole} by rule and_i then rule any_i\n"
+        Path(folder, "t").write_text(theory_text)
         Path(folder, "s").write_text(script)
         walls, works = [], []
         for _ in range(runs):
@@ -68,15 +63,52 @@ def measure(program, runs, size, nodes):
             works.append(processor_time() - worked)
             if done.returncode or done.stdout != due.encode():
                 sys.exit(f"another answer: status {done.returncode}, {done.stdout[:200]!r}")
-    print(f"theory {len(text):9,} bytes, {text.count('rule '):6,} rules, script {len(script):7,} bytes, "
-          f"goal {nodes:6,} nodes: {min(walls) * 1000:8.1f} ms, {min(works) * 1000:8.1f} ms of processor", flush=True)
+    print(f"{label}: {min(walls) * 1000:8.1f} ms, {min(works) * 1000:8.1f} ms of processor", flush=True)
+
+
+def large(program, runs, size, nodes):
+    """A theory of distinct rules of about 170 bytes, the last two of which are used, and one goal of two steps."""
+    whole, first, second = goal(nodes)
+    due = f"goal g: closed\nrule and_i | >- {whole}\n  rule any_i | >- {first}\n  rule any_i | >- {second}\n"
+    script = f"goal g fuel 5 : >- {whole} by rule and_i then rule any_i\n"
+    text = theory(size)
+    run(program, runs, f"theory {len(text):9,} bytes, {text.count('rule '):6,} rules, goal {nodes:6,} nodes", text, script, due)
+
+
+def many(program, runs, count):
+    """A script of so many goals of about 700 bytes, each with a hypothesis and closed by two steps."""
+    whole, first, second = goal(200)
+    goals = "".join(f"goal g{k} : h: all{{nat; x. p{{'x}}}} >- {whole} by rule and_h then rule any_h\n" for k in range(count))
+    hyp = "x1: all{nat; x1. p{'x1}} >- "
+    due = "".join(f"goal g{k}: closed\nrule and_h | {hyp}{whole}\n  rule any_h | {hyp}{first}\n  rule any_h | {hyp}{second}\n"
+                  for k in range(count))
+    rules = "rule and_h : <H> >- 'A<H>, <H> >- 'B<H> ==> <H> >- and{'A<H>; 'B<H>}\nrule any_h : ==> <H> >- 'A<H>\n"
+    run(program, runs, f"script {len(goals):9,} bytes, {count:6,} goals", rules, goals, due)
+
+
+def tall(program, runs, depth):
+    """A tree of 2 ^ (depth + 1) - 1 lines: each step but the last ones doubles its goal."""
+    def lines(level):
+        term = "d{" * (depth - level) + "c" + "}" * (depth - level)
+        here = "  " * level + f"rule {'two' if level < depth else 'one'} | >- {term}\n"
+        return here + 2 * lines(level + 1) if level < depth else here
+
+    term = "d{" * depth + "c" + "}" * depth
+    script = f"goal g : >- {term} by " + "rule two then " * depth + "rule one\n"
+    due = "goal g: closed\n" + lines(0)
+    run(program, runs, f"tree of {2 ** (depth + 1) - 1:6,} lines, {len(due):9,} bytes",
+        "rule two : >- 'A, >- 'A ==> >- d{'A}\nrule one : ==> >- c\n", script, due)
 
 
 def main():
     program = Path(sys.argv[1] if len(sys.argv) > 1 else "crates/metatac/out/metatac").resolve()
     runs = int(sys.argv[2]) if len(sys.argv) > 2 else 5
     for size, nodes in [(0, 10), (524288, 10), (1048576, 10), (0, 10000), (0, 20000), (1048576, 20000)]:
-        measure(program, runs, max(size, len(USED)), nodes)
+        large(program, runs, max(size, len(USED)), nodes)
+    for count in [200, 400, 800]:
+        many(program, runs, count)
+    for depth in [12, 13, 14]:
+        tall(program, runs, depth)
 
 
 if __name__ == "__main__":

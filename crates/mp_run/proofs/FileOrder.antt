@@ -2,12 +2,15 @@
 use Rattle.std.proofs.Common.{◌≡◌, ℕ, List, [], map, Option, Some, Result, Ok, Err, sym, subst}
 use Rattle.mp_logic.specs.declared.sym.Sym.{Sym}
 use Rattle.mp_theory.specs.declared.rule.Rule.{Rule}
-use Rattle.mp_thintext.specs.declared.script.Entry.{Entry}
-use Rattle.mp_thintext.specs.declared.script.Script.{Script as Goals}
-use Rattle.mp_thintext.specs.declared.schedule.Section.{Section}
-use Rattle.mp_thintext.specs.Texts.{ReadsTheory, ReadsScript, ReadsSchedule}
-use Rattle.mp_thintext.specs.Values.{EachGood, EachInRange}
-use Rattle.mp_run.specs.declared.file.FileKind.TheVariants.{Theory, Script, Schedule}
+use Rattle.mp_scripttext.specs.declared.script.Entry.{Entry}
+use Rattle.mp_scripttext.specs.declared.script.Script.{Script as Goals}
+use Rattle.mp_drill.specs.declared.schedule.Section.{Section}
+use Rattle.mp_theorytext.specs.Reading.{ReadsTheory}
+use Rattle.mp_scripttext.specs.Reading.{ReadsScript}
+use Rattle.mp_drill.specs.ScheduleReading.{ReadsSchedule}
+use Rattle.mp_scripttext.specs.Entries.{EachGood}
+use Rattle.mp_drill.specs.ScheduleValues.{EachInRange}
+use Rattle.mp_report.specs.declared.refusal.FileKind.TheVariants.{Theory, Script, Schedule}
 use Rattle.mp_run.specs.declared.loading.Loaded.{Loaded}
 use Rattle.mp_run.specs.declared.stop.Stop.{Stop}
 use Rattle.mp_run.specs.Answers.{Names}

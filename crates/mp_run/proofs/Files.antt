@@ -1,14 +1,16 @@
 -- How the readings of the files, one after the other, make the answer.
 use Rattle.std.proofs.Common.{◌≡◌, ℕ, ◌≤◌, length, inl, inr, List, Option, Some, None, Result, Ok, Err, refl, sym, subst}
-use Rattle.mp_thintext.specs.declared.fail.ThinErr.{ThinErr}
-use Rattle.mp_run.specs.declared.file.FileKind.{FileKind}
+use Rattle.mp_termtext.specs.declared.fail.TextErr.{TextErr}
+use Rattle.mp_termtext.specs.declared.fail.TextFail.{TextFail}
+use Rattle.mp_report.specs.declared.refusal.FileKind.{FileKind}
 use Rattle.mp_run.specs.declared.stop.Stop.{Stop}
 use Rattle.mp_run.specs.declared.stop.Stop.TheVariants as stop
 use Rattle.mp_run.specs.Answers.{Answer, Refusal, Names, Reading, FileThen}
-use Rattle.mp_thintext.specs.declared.fail.ThinErr.TheVariants as thin
+use Rattle.mp_termtext.specs.declared.fail.TextFail.TheVariants as fail
 use Rattle.mp_run.specs.declared.loading.Loaded.{Loaded}
 use Rattle.mp_run.specs.Loads.{LoadsSo}
-use Rattle.mp_run.specs.Lines.{limit_of, refused_line}
+use Rattle.mp_run.specs.Lines.{limit_of}
+use Rattle.mp_report.specs.Refusals.{refusal_text}
 use Rattle.mp_run.specs.Stops.{GivesBytes, GivesValue, StopsRead, StopsWith}
 
 module _ {V : Type 0} (kind : FileKind) (reads : Reading V) (next : V → Names → Answer → Type 0) where
@@ -48,26 +50,26 @@ says_value {V} kind reads told text slice value names h e k =
     let P : List ℕ → Type 0 = λ x. reads x (Ok value) names in
     says_of kind reads told text value names h (subst P e k)
 
-refused_by : {V : Type 0} (kind : FileKind) (reads : Reading V) (told : Option (List ℕ)) (text : List ℕ) (fail : ThinErr) (st : Stop) (names : Names)
-    → (let read : Result (List ℕ) Stop = Ok text in GivesBytes told kind read) → reads text (Err fail) names → StopsRead kind fail st
+refused_by : {V : Type 0} (kind : FileKind) (reads : Reading V) (told : Option (List ℕ)) (text : List ℕ) (fails : TextFail) (st : Stop) (names : Names)
+    → (let read : Result (List ℕ) Stop = Ok text in GivesBytes told kind read) → reads text (Err fails) names → StopsRead kind fails st
     → (let said : Result V Stop = Err st in GivesValue told kind reads names said)
-refused_by kind reads None text thin.Refused (stop.Refused line) names h k s = tt
-refused_by {V} kind reads (Some bytes) text thin.Refused (stop.Refused line) names h k s =
-    let P : List ℕ → Type 0 = λ x. (length x ≤ limit_of) × ((after : Names) × reads x (Err thin.Refused) after) × (line ≡ refused_line kind) in
-    inr (subst P h.1 (h.0, (names, k), s))
-refused_by kind reads told text thin.Refused stop.NoMemory names h k s = tt
-refused_by kind reads told text thin.NoMemory stop.NoMemory names h k s = tt
-refused_by kind reads told text thin.Refused (stop.Fault file) names h k s = absurd s
-refused_by kind reads told text thin.NoMemory (stop.Fault file) names h k s = absurd s
-refused_by kind reads told text thin.NoMemory (stop.Refused line) names h k s = absurd s
+refused_by kind reads None text (fail.Bad e) (stop.Refused line) names h k s = tt
+refused_by {V} kind reads (Some bytes) text (fail.Bad e) (stop.Refused line) names h k s =
+    let P : List ℕ → Type 0 = λ x. (length x ≤ limit_of) × ((f : TextErr) × (after : Names) × reads x (Err (fail.Bad f)) after × (line ≡ refusal_text kind f)) in
+    inr (subst P h.1 (h.0, (e, names, k, s)))
+refused_by kind reads told text (fail.Bad e) stop.NoMemory names h k s = tt
+refused_by kind reads told text fail.NoMemory stop.NoMemory names h k s = tt
+refused_by kind reads told text (fail.Bad e) (stop.Fault file) names h k s = absurd s
+refused_by kind reads told text fail.NoMemory (stop.Fault file) names h k s = absurd s
+refused_by kind reads told text fail.NoMemory (stop.Refused line) names h k s = absurd s
 
 -- the bytes of the file are read, and say nothing
-pub says_nothing : {V : Type 0} (kind : FileKind) (reads : Reading V) (told : Option (List ℕ)) (text slice : List ℕ) (fail : ThinErr) (st : Stop) (names : Names)
-    → (let read : Result (List ℕ) Stop = Ok text in GivesBytes told kind read) → slice ≡ text → reads slice (Err fail) names → StopsRead kind fail st
+pub says_nothing : {V : Type 0} (kind : FileKind) (reads : Reading V) (told : Option (List ℕ)) (text slice : List ℕ) (fails : TextFail) (st : Stop) (names : Names)
+    → (let read : Result (List ℕ) Stop = Ok text in GivesBytes told kind read) → slice ≡ text → reads slice (Err fails) names → StopsRead kind fails st
     → (let said : Result V Stop = Err st in GivesValue told kind reads names said)
-says_nothing {V} kind reads told text slice fail st names h e k s =
-    let P : List ℕ → Type 0 = λ x. reads x (Err fail) names in
-    refused_by kind reads told text fail st names h (subst P e k) s
+says_nothing {V} kind reads told text slice fails st names h e k s =
+    let P : List ℕ → Type 0 = λ x. reads x (Err fails) names in
+    refused_by kind reads told text fails st names h (subst P e k) s
 
 -- the files are loaded, or one of them ends the run
 pub loads_on : {V : Type 0} (IsRead : FileKind → Type 0) (kind : FileKind) (reads : Reading V) (next : V → Names → Answer → Type 0) (told : Option (List ℕ)) (names : Names) (value : V) (result : Result Loaded Stop)

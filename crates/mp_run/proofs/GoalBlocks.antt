@@ -4,7 +4,7 @@ use Rattle.mp_term.specs.declared.sequent.Sequent.{Sequent}
 use Rattle.mp_theory.specs.declared.rule.Rule.{Rule}
 use Rattle.mp_strategy.specs.declared.outcome.Outcome.{Outcome}
 use Rattle.mp_report.specs.Results.{result_text}
-use Rattle.mp_thintext.specs.declared.script.Entry.{Entry}
+use Rattle.mp_scripttext.specs.declared.script.Entry.{Entry}
 use Rattle.mp_run.specs.declared.block.Block.{Block}
 use Rattle.mp_run.specs.Answers.{Names}
 use Rattle.mp_logic.specs.declared.sym.Sym.{Sym}
@@ -13,8 +13,8 @@ use Rattle.mp_drill.specs.declared.schedule.Reply.{Reply}
 use Rattle.mp_drill.specs.Ranges.{are_in_range}
 use Rattle.mp_drill.specs.Trace.{IsTrace}
 use Rattle.mp_report.specs.Traces.{trace_text}
-use Rattle.mp_thintext.specs.declared.schedule.Section.{Section}
-use Rattle.mp_thintext.specs.Values.{EachInRange}
+use Rattle.mp_drill.specs.declared.schedule.Section.{Section}
+use Rattle.mp_drill.specs.ScheduleValues.{EachInRange}
 use Rattle.mp_run.specs.Goals.{goal_work, goal_outcome, goal_text, evaluate_in, events_of, is_closed, IsBlock}
 
 abbrev pub block_of : List ℕ → Bool → Block

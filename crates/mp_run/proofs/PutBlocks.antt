@@ -11,10 +11,10 @@ use Rattle.mp_strategy.specs.declared.work.Work.{Work}
 use Rattle.mp_strategy.specs.declared.outcome.Outcome.{Outcome}
 use Rattle.mp_drill.specs.Laws.{SomeTrace, CanBeCompared}
 use Rattle.mp_report.specs.Traces.{trace_text}
-use Rattle.mp_thintext.specs.declared.script.Entry.{Entry}
-use Rattle.mp_thintext.specs.declared.schedule.Section.{Section}
+use Rattle.mp_scripttext.specs.declared.script.Entry.{Entry}
+use Rattle.mp_drill.specs.declared.schedule.Section.{Section}
 use Rattle.mp_run.specs.declared.block.Block.{Block}
-use Rattle.mp_run.specs.declared.file.Status.TheVariants as status
+use Rattle.mp_run.specs.declared.status.Status.TheVariants as status
 use Rattle.mp_run.specs.Answers.{Names}
 use Rattle.mp_run.specs.Goals.{AreBlocks, IsBlock, evaluate_in, goal_work, goal_outcome, goal_text, events_of, is_closed}
 use Rattle.mp_run.specs.Loads.{GoalsWrite}

@@ -8,17 +8,30 @@ use Rattle.mp_termtext.specs.declared.word.Word.{Word}
 use Rattle.mp_drill.specs.declared.schedule.Reply.{Reply}
 use Rattle.mp_drill.specs.Laws.{OneTrace}
 use Rattle.mp_report.specs.Traces.{trace_text}
-use Rattle.mp_thintext.specs.declared.fail.ThinErr.TheVariants.{Refused}
-use Rattle.mp_thintext.specs.declared.script.Entry.{Entry}
-use Rattle.mp_thintext.specs.declared.script.Script.{Script as Goals}
-use Rattle.mp_thintext.specs.declared.schedule.Section.{Section}
-use Rattle.mp_thintext.specs.Texts.{OneText, OneTheoryText, OneScriptText, OneScheduleText, ReadsText, ReadsTheory, ReadsScript, ReadsSchedule}
-use Rattle.mp_thintext.specs.Grammar.{IsTheory, StuckTheory, IsScript, StuckScript, IsSchedule, StuckSchedule}
-use Rattle.mp_thintext.specs.Values.{rules_of, is_theory, keeps_rules, script_of, is_schedule, schedule_of}
+use Rattle.mp_termtext.specs.declared.fail.TextFail.TheVariants.{Bad}
+use Rattle.mp_scripttext.specs.declared.script.Entry.{Entry}
+use Rattle.mp_scripttext.specs.declared.script.Script.{Script as Goals}
+use Rattle.mp_drill.specs.declared.schedule.Section.{Section}
+use Rattle.mp_theorytext.specs.Reading.{ReadsTheory, OneTheoryText}
+use Rattle.mp_scripttext.specs.Reading.{ReadsScript, OneScriptText}
+use Rattle.mp_drill.specs.ScheduleReading.{ReadsSchedule, OneScheduleText}
+use Rattle.mp_termtext.specs.Texts.{OneText, ReadsText}
+use Rattle.mp_termtext.specs.declared.fail.TextErr.{TextErr}
+use Rattle.mp_termtext.specs.declared.fault.Fault.{Fault}
+use Rattle.mp_theorytext.specs.Grammar.{IsTheory, StuckTheory}
+use Rattle.mp_theorytext.specs.Statics.{theory_faults}
+use Rattle.mp_scripttext.specs.Grammar.{IsScript, StuckScript}
+use Rattle.mp_scripttext.specs.Statics.{script_faults}
+use Rattle.mp_drill.specs.ScheduleGrammar.{IsSchedule, StuckSchedule}
+use Rattle.mp_drill.specs.ScheduleStatics.{schedule_faults}
+use Rattle.mp_report.specs.Refusals.{refusal_text}
+use Rattle.mp_theorytext.specs.Values.{rules_of}
+use Rattle.mp_scripttext.specs.Values.{script_of}
+use Rattle.mp_drill.specs.ScheduleValues.{schedule_of}
 use Rattle.mp_run.specs.declared.block.Block.{Block}
-use Rattle.mp_run.specs.declared.file.FileKind.{FileKind}
-use Rattle.mp_run.specs.declared.file.FileKind.TheVariants.{Theory, Script, Schedule}
-use Rattle.mp_run.specs.declared.file.Status.{Status}
+use Rattle.mp_report.specs.declared.refusal.FileKind.{FileKind}
+use Rattle.mp_report.specs.declared.refusal.FileKind.TheVariants.{Theory, Script, Schedule}
+use Rattle.mp_run.specs.declared.status.Status.{Status}
 use Rattle.mp_run.specs.Answers.{Answer, Blocks, Refusal, Names, Reading, Says, FileThen}
 use Rattle.mp_run.specs.Commands.{Command}
 use Rattle.mp_run.specs.Goals.{goal_work, goal_outcome, goal_text, evaluate_in, events_of, is_closed, IsBlock, AreBlocks, answer_of, GoalsAnswer}
@@ -26,18 +39,18 @@ use Rattle.mp_run.specs.Headline.{Answers, ScriptAnswers, ScheduleAnswers, RunAn
 use Rattle.mp_run.specs.Laws.{AreTold, OneAnswer, OneOutput}
 use Rattle.mp_run.specs.Runs.{Ends}
 
--- bytes say one value with one table of names, and none where they are refused
+-- bytes say one value with one table of names or have one fault, and not both
 record OneReading {V : Type 0} (reads : Reading V) : Type 1 where
   pub value : (bytes : List ℕ) (v w : V) (names others : Names) → reads bytes (Ok v) names → reads bytes (Ok w) others → (v ≡ w) × (names ≡ others)
-  pub not_both : (bytes : List ℕ) (v : V) (names others : Names) → reads bytes (Ok v) names → reads bytes (Err Refused) others → ⊥
+  pub not_both : (bytes : List ℕ) (v : V) (e : TextErr) (names others : Names) → reads bytes (Ok v) names → reads bytes (Err (Bad e)) others → ⊥
+  pub fault : (bytes : List ℕ) (e f : TextErr) (names others : Names) → reads bytes (Err (Bad e)) names → reads bytes (Err (Bad f)) others → e ≡ f
 
-text_read : {X V : Type 0} (Is : X → List Word → List Word → Type 0) (Stuck : List Word → List Word → Type 0) (keeps : X → Bool) (value : X → V) (old : Names)
-    → OneText Is Stuck keeps → OneReading (ReadsText Is Stuck keeps value old)
-text_read Is Stuck keeps value old one = record {
-  value = λ bytes v w names others h k.
-      let same = (one old bytes).0 h.0 k.0 h.1 k.1 in
-      (h.2 ∙ ap value same ∙ sym k.2, h.3 ∙ sym k.3);
-  not_both = λ bytes v names others h k. (one old bytes).1 h.0 h.1 k.0;
+text_read : {X V : Type 0} (Is : X → List Word → List Word → Type 0) (Stuck : List Word → List Word → Type 0) (faults : X → List Fault) (value : X → V) (old : Names)
+    → OneText Is Stuck faults value → OneReading (ReadsText Is Stuck faults value old)
+text_read Is Stuck faults value old one = record {
+  value = λ bytes v w names others h k. (one.one_value old bytes v w h.0 k.0, h.1 ∙ sym k.1);
+  not_both = λ bytes v e names others h k. one.apart old bytes v e h.0 k.0;
+  fault = λ bytes e f names others h k. one.one_fault old bytes e f h.0 k.0;
 }
 
 module _ {V : Type 0} (kind : FileKind) (reads : Reading V) (next : V → Names → Answer → Type 0) (one : OneReading reads)
@@ -46,11 +59,12 @@ module _ {V : Type 0} (kind : FileKind) (reads : Reading V) (next : V → Names 
   one_line bytes line other (inl h) (inl k) = h.1 ∙ sym k.1
   one_line bytes line other (inl h) (inr k) = absurd (omega (arith, h.0, k.0))
   one_line bytes line other (inr h) (inl k) = absurd (omega (arith, h.0, k.0))
-  one_line bytes line other (inr h) (inr k) = h.2 ∙ sym k.2
+  one_line bytes line other (inr h) (inr k) =
+      let same = one.fault bytes h.1.0 k.1.0 h.1.1 k.1.1 h.1.2 k.1.2 in h.1.3 ∙ ap (refusal_text kind) same ∙ sym k.1.3
 
   not_both_said : (bytes line : List ℕ) (v : V) (names : Names) → Says kind reads bytes (Err line) → Says kind reads bytes (Ok (v, names)) → ⊥
   not_both_said bytes line v names (inl h) k = omega (arith, h.0, k.0)
-  not_both_said bytes line v names (inr h) k = one.not_both bytes v names h.1.0 k.1 h.1.1
+  not_both_said bytes line v names (inr h) k = one.not_both bytes v h.1.0 names h.1.1 k.1 h.1.2
 
   -- a file that is told leaves one answer
   one_file : (bytes : List ℕ) (a b : Answer) → FileThen kind (Some bytes) reads next a → FileThen kind (Some bytes) reads next b → a ≡ b
@@ -97,20 +111,20 @@ module _ (one : (eval : Work Sequent → Outcome Sequent) → OneTrace eval) whe
     one_schedule (Some name) told rules goals names a b h k =
         let asked = map (λ (e : Entry). e.name) goals.entries in
         one_told Schedule (ReadsSchedule asked names) (λ sections last. GoalsAnswer last rules (Some sections) goals.entries)
-        (text_read IsSchedule StuckSchedule (is_schedule asked) schedule_of names (schedule asked))
+        (text_read IsSchedule StuckSchedule (schedule_faults asked) schedule_of names (schedule asked))
         (λ sections last x y p q. one_goals last rules (Some sections) goals.entries x y p q) (files name) told a b h k
 
     one_script : (file : List ℕ) (last : Option (List ℕ)) → IsSome (files file) → IfSome last (λ name. IsSome (files name)) → (rules : List Rule) (names : Names) (a b : Answer)
         → ScriptAnswers files file last rules names a → ScriptAnswers files file last rules names b → a ≡ b
     one_script file last told told-last rules names a b h k =
         one_told Script (ReadsScript rules names) (λ goals known. ScheduleAnswers files last rules goals known)
-        (text_read IsScript StuckScript (keeps_rules rules) (script_of rules) names (script rules))
+        (text_read IsScript StuckScript (script_faults rules) (script_of rules) names (script rules))
         (λ goals known x y p q. one_schedule last told-last rules goals known x y p q) (files file) told a b h k
 
     pub one_answer_to : (command : Command) → AreTold files command → (a b : Answer) → Answers files command a → Answers files command b → a ≡ b
     one_answer_to command told a b h k =
         one_told Theory (ReadsTheory []) (λ rules names. ScriptAnswers files command.script command.schedule rules names)
-        (text_read IsTheory StuckTheory is_theory rules_of [] theory)
+        (text_read IsTheory StuckTheory theory_faults rules_of [] theory)
         (λ rules names x y p q. one_script command.script command.schedule told.1 told.2 rules names x y p q) (files command.theory) told.0 a b h k
 
 -- an answer is written under one status, as one text

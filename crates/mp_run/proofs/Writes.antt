@@ -1,22 +1,20 @@
 -- What the parts of a run write is what the run may write.
 use Rattle.std.proofs.Common.{◌≡◌, ℕ, inl, inr, Option, Bool, true, false, List, [], ◌++◌, map, Result, Err, refl, sym, subst}
 use Rattle.std.specs.List.{list_all}
-use Rattle.mp_thintext.specs.declared.script.Entry.{Entry}
+use Rattle.mp_scripttext.specs.declared.script.Entry.{Entry}
 use Rattle.mp_run.specs.declared.block.Block.{Block}
-use Rattle.mp_run.specs.declared.file.FileKind.{FileKind}
-use Rattle.mp_run.specs.declared.file.FileKind.TheVariants.{Theory}
-use Rattle.mp_run.specs.declared.file.Status.{Status}
-use Rattle.mp_run.specs.declared.file.Status.TheVariants as status
+use Rattle.mp_report.specs.declared.refusal.FileKind.{FileKind}
+use Rattle.mp_run.specs.declared.status.Status.{Status}
+use Rattle.mp_run.specs.declared.status.Status.TheVariants as status
 use Rattle.mp_run.specs.declared.stop.Stop.{Stop}
 use Rattle.mp_run.specs.declared.stop.Stop.TheVariants as stop
 use Rattle.mp_run.specs.Answers.{Answer, Blocks, Refusal}
 use Rattle.mp_run.specs.Commands.{Command}
 use Rattle.mp_run.specs.Goals.{AreBlocks, answer_of}
 use Rattle.mp_run.specs.Headline.{Answers, RunAnswers}
-use Rattle.mp_run.specs.Lines.{fault_line}
 use Rattle.mp_run.specs.declared.loading.Loaded.{Loaded}
 use Rattle.mp_run.specs.Loads.{GoalsWrite}
-use Rattle.mp_run.specs.Runs.{joined, Ends, MayBegin, CommandWrites}
+use Rattle.mp_run.specs.Runs.{joined, Ends, ReadsFile, FailsFile, MayBegin, CommandWrites}
 use Rattle.mp_run.specs.Stops.{StopsWith, StopWrites, StopCause}
 
 ends_closed : (texts : List (List ℕ)) (b : Bool) (text : List ℕ) → b ≡ true → text ≡ joined texts → Ends (Blocks texts b) status.AllClosed text
@@ -31,18 +29,17 @@ ends_somehow : (texts : List (List ℕ)) (b : Bool) (text : List ℕ) → text �
 ends_somehow texts true text h = (status.AllClosed, (refl, h))
 ends_somehow texts false text h = (status.NotAll, (refl, h))
 
-module _ (IsRead : FileKind → Type 0) (IsAnswer : Answer → Type 0) (theory : IsRead Theory) where
+module _ (IsRead : FileKind → Type 0) (IsAnswer : Answer → Type 0) where
   -- nothing was written
   nothing : (s : Status) (text : List ℕ) → s ≡ status.NoMemory → text ≡ [] → CommandWrites IsRead IsAnswer s text
   nothing s text e f =
       let P : Status → Type 0 = λ x. CommandWrites IsRead IsAnswer x text in
-      let Q : List ℕ → Type 0 = λ x. MayBegin IsRead IsAnswer x in
-      subst P (sym e) (subst Q (sym f) (fault_line Theory, inr (Theory, theory, refl)))
+      subst P (sym e) (inl f)
 
   begins : (bs : List Block) (text rest : List ℕ) → IsAnswer (answer_of bs) → text ++ rest ≡ joined (map (λ b. b.text) bs) → MayBegin IsRead IsAnswer text
   begins bs text rest is e =
       let done = ends_somehow (map (λ b. b.text) bs) (list_all (λ b. b.closed) bs) (text ++ rest) e in
-      (rest, inl (done.0, (answer_of bs, is, done.1)))
+      inr (rest, inl (done.0, (answer_of bs, is, done.1)))
 
   pub goals_written : (Is : Entry → Block → Type 0) (entries : List Entry) (s : Status) (text : List ℕ)
       → ((answer : Answer) → ((bs : List Block) × AreBlocks Is entries bs × (answer ≡ answer_of bs)) → IsAnswer answer)
@@ -62,19 +59,19 @@ module _ (IsRead : FileKind → Type 0) (IsAnswer : Answer → Type 0) (theory :
 
   pub stop_written : (st : Stop) (s : Status) (text : List ℕ) → StopsWith IsRead IsAnswer st → StopWrites st s text → CommandWrites IsRead IsAnswer s text
   stop_written (stop.Refused line) s text is (inl h) = moved s status.Refused text h.0 (Refusal line, is, (refl, h.1))
-  stop_written (stop.Refused line) s text is (inr h) = moved s status.WriteFault text h.0 (h.1, inl (status.Refused, (Refusal line, is, (refl, h.2))))
+  stop_written (stop.Refused line) s text is (inr h) = moved s status.WriteFault text h.0 (inr (h.1, inl (status.Refused, (Refusal line, is, (refl, h.2)))))
   stop_written (stop.Fault file) s text is (inl (inl h)) = moved s status.ReadFault text h.0 (file, is, h.1)
-  stop_written (stop.Fault file) s text is (inl (inr h)) = moved s status.WriteFault text h.0 (h.1, inr (file, is, h.2))
+  stop_written (stop.Fault file) s text is (inl (inr h)) = moved s status.WriteFault text h.0 (inr (h.1, inr (file, is, h.2)))
   stop_written (stop.Fault file) s text is (inr h) = nothing s text h.0 h.1
   stop_written stop.NoMemory s text is h = nothing s text h.0 h.1
 
 module _ (files : List ℕ → Option (List ℕ)) (longs later : ℕ) (command : Command) where
   -- what ends the run has its cause
-  pub stops_caused : (IsRead : FileKind → Type 0) (r r' : ℕ) (st : Stop) → StopsWith IsRead (Answers files command) st
-      → (let answer : Result Loaded Stop = Err st in StopCause r r' longs later answer) → StopsWith IsRead (RunAnswers files longs later command) st
-  stops_caused IsRead r r' (stop.Refused line) is cause = (is, cause.1)
-  stops_caused IsRead r r' (stop.Fault file) is cause = is
-  stops_caused IsRead r r' stop.NoMemory is cause = tt
+  pub stops_caused : (schedule : Option (List ℕ)) (r r' : ℕ) (st : Stop) → StopsWith (ReadsFile schedule) (Answers files command) st
+      → (let answer : Result Loaded Stop = Err st in StopCause r r' longs later answer) → StopsWith (FailsFile r r' schedule) (RunAnswers files longs later command) st
+  stops_caused schedule r r' (stop.Refused line) is cause = (is, cause.1)
+  stops_caused schedule r r' (stop.Fault file) is cause = (is, cause)
+  stops_caused schedule r r' stop.NoMemory is cause = tt
 
   -- blocks need none
   pub blocks_caused : (Is : Entry → Block → Type 0) (entries : List Entry)

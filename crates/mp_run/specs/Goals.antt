@@ -14,8 +14,8 @@ use Rattle.mp_strategy.specs.Evaluation.{eval}
 use Rattle.mp_drill.specs.declared.schedule.Event.{Event}
 use Rattle.mp_drill.specs.declared.schedule.Reply.{Reply}
 use Rattle.mp_drill.specs.Trace.{IsTrace}
-use Rattle.mp_thintext.specs.declared.script.Entry.{Entry}
-use Rattle.mp_thintext.specs.declared.schedule.Section.{Section}
+use Rattle.mp_scripttext.specs.declared.script.Entry.{Entry}
+use Rattle.mp_drill.specs.declared.schedule.Section.{Section}
 use Rattle.mp_report.specs.Results.{result_text}
 use Rattle.mp_report.specs.Traces.{trace_text}
 use Rattle.mp_run.specs.declared.block.Block.{Block}

@@ -1,10 +1,12 @@
 -- The answer to a command, from the bytes of its files.
 use Rattle.std.specs.Prelude.{ℕ, List, [], map, Some, None}
 use Rattle.std.specs.declared.option.Option.{Option}
-use Rattle.mp_run.specs.declared.file.FileKind.TheVariants.{Theory, Script, Schedule}
+use Rattle.mp_report.specs.declared.refusal.FileKind.TheVariants.{Theory, Script, Schedule}
 use Rattle.mp_theory.specs.declared.rule.Rule.{Rule}
-use Rattle.mp_thintext.specs.declared.script.Script.{Script as Goals}
-use Rattle.mp_thintext.specs.Texts.{ReadsTheory, ReadsScript, ReadsSchedule}
+use Rattle.mp_scripttext.specs.declared.script.Script.{Script as Goals}
+use Rattle.mp_theorytext.specs.Reading.{ReadsTheory}
+use Rattle.mp_scripttext.specs.Reading.{ReadsScript}
+use Rattle.mp_drill.specs.ScheduleReading.{ReadsSchedule}
 use Rattle.mp_run.specs.Answers.{Answer, Blocks, Refusal, Names, FileThen}
 use Rattle.mp_run.specs.Commands.{Command}
 use Rattle.mp_run.specs.Goals.{GoalsAnswer}

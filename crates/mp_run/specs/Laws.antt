@@ -1,6 +1,6 @@
 -- One answer to the words and the files.
 use Rattle.std.specs.Prelude.{◌≡◌, ℕ, List, Option, IfSome, IsSome}
-use Rattle.mp_run.specs.declared.file.Status.{Status}
+use Rattle.mp_run.specs.declared.status.Status.{Status}
 use Rattle.mp_run.specs.Answers.{Answer}
 use Rattle.mp_run.specs.Commands.{Command}
 use Rattle.mp_run.specs.Headline.{Answers, RunAnswers}

@@ -1,30 +1,21 @@
 -- The lines that tell why a run ended before its goals.
 use Rattle.std.specs.Prelude.{◌≡◌, ℕ, List, ◌++◌, codes}
 use Rattle.mp_ports.specs.Causes.{Rose}
-use Rattle.mp_run.specs.declared.file.FileKind.{FileKind}
-use Rattle.mp_run.specs.declared.file.FileKind.TheVariants.{Theory, Script, Schedule}
+use Rattle.mp_report.specs.declared.refusal.FileKind.{FileKind}
+use Rattle.mp_report.specs.Refusals.{file_text}
 
 -- the limit on the length of a file, in bytes
 abbrev pub limit_of : ℕ
 limit_of = 1048576
 
-abbrev pub name_of : FileKind → List ℕ
-name_of Theory = codes "theory"
-name_of Script = codes "script"
-name_of Schedule = codes "schedule"
-
 -- a file that is over the limit
 abbrev pub long_line : FileKind → List ℕ
-long_line file = codes "refused: " ++ name_of file ++ codes " is longer than 1048576 bytes\n"
+long_line file = codes "refused: " ++ file_text file ++ codes " is longer than 1048576 bytes\n"
 
 -- the line that a file is over the limit comes only where the shelf's count of long files rose
 abbrev pub LongCause : (longs_before longs_now : ℕ) → (line : List ℕ) → Type 0
 LongCause before now line = (file : FileKind) → line ≡ long_line file → Rose before now
 
--- a file that isn't a text of its kind
-abbrev pub refused_line : FileKind → List ℕ
-refused_line file = codes "refused: " ++ name_of file ++ codes "\n"
-
 -- a file that couldn't be read
 abbrev pub fault_line : FileKind → List ℕ
-fault_line file = codes "fault: reading " ++ name_of file ++ codes "\n"
+fault_line file = codes "fault: reading " ++ file_text file ++ codes "\n"

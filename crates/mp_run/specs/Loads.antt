@@ -1,16 +1,17 @@
 -- What loading the files of a command answers.
 use Rattle.std.specs.Prelude.{◌≡◌, ℕ, ◌++◌, true, false, List, map, Option, Some, None, Result, Ok, Err, ⊤}
 use Rattle.std.specs.List.{list_all}
-use Rattle.mp_thintext.specs.declared.schedule.Section.{Section}
-use Rattle.mp_thintext.specs.Values.{EachGood, EachInRange}
+use Rattle.mp_drill.specs.declared.schedule.Section.{Section}
+use Rattle.mp_scripttext.specs.Entries.{EachGood}
+use Rattle.mp_drill.specs.ScheduleValues.{EachInRange}
 use Rattle.mp_run.specs.declared.loading.Loaded.{Loaded}
 use Rattle.mp_run.specs.declared.stop.Stop.{Stop}
 use Rattle.mp_run.specs.Answers.{Answer}
 use Rattle.mp_run.specs.declared.block.Block.{Block}
-use Rattle.mp_run.specs.declared.file.FileKind.{FileKind}
-use Rattle.mp_run.specs.declared.file.Status.{Status}
-use Rattle.mp_run.specs.declared.file.Status.TheVariants as status
-use Rattle.mp_thintext.specs.declared.script.Entry.{Entry}
+use Rattle.mp_report.specs.declared.refusal.FileKind.{FileKind}
+use Rattle.mp_run.specs.declared.status.Status.{Status}
+use Rattle.mp_run.specs.declared.status.Status.TheVariants as status
+use Rattle.mp_scripttext.specs.declared.script.Entry.{Entry}
 use Rattle.mp_run.specs.Goals.{GoalsAnswer, AreBlocks}
 use Rattle.mp_run.specs.Runs.{joined}
 use Rattle.mp_run.specs.Stops.{StopsWith}

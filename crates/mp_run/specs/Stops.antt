@@ -3,16 +3,17 @@ use Rattle.std.specs.Prelude.{◌≡◌, ℕ, ◌<◌, ◌≤◌, ◌⊎◌, Lis
 use Rattle.std.specs.Borrow.{Bor}
 use Rattle.mp_ports.specs.Causes.{Rose}
 use Rattle.mp_run.specs.declared.command.Command.{Command as Words}
-use Rattle.mp_run.specs.declared.file.FileKind.{FileKind}
-use Rattle.mp_run.specs.declared.file.Status.{Status}
-use Rattle.mp_run.specs.declared.file.Status.TheVariants as status
+use Rattle.mp_report.specs.declared.refusal.FileKind.{FileKind}
+use Rattle.mp_run.specs.declared.status.Status.{Status}
+use Rattle.mp_run.specs.declared.status.Status.TheVariants as status
 use Rattle.mp_run.specs.declared.stop.Stop.{Stop}
 use Rattle.mp_run.specs.declared.stop.Stop.TheVariants as stop
+use Rattle.mp_report.specs.Refusals.{refusal_text}
 use Rattle.mp_run.specs.Answers.{Names, Reading, Says, Answer, Refusal}
 use Rattle.mp_run.specs.Commands.{Command}
-use Rattle.mp_run.specs.Lines.{limit_of, long_line, LongCause, refused_line, fault_line}
-use Rattle.mp_thintext.specs.declared.fail.ThinErr.{ThinErr}
-use Rattle.mp_thintext.specs.declared.fail.ThinErr.TheVariants as thin
+use Rattle.mp_run.specs.Lines.{limit_of, long_line, LongCause, fault_line}
+use Rattle.mp_termtext.specs.declared.fail.TextFail.{TextFail}
+use Rattle.mp_termtext.specs.declared.fail.TextFail.TheVariants as fail
 
 -- the bytes of a word, if there is one
 abbrev pub word_seen : Option (Bor (List ℕ)) → Option (List ℕ)
@@ -72,9 +73,9 @@ abbrev pub WriteCause : ℕ → ℕ → Status → Type 0
 WriteCause before now status.WriteFault = Rose before now
 WriteCause before now other = now ≡ before
 
--- a text of no kind refuses its file, and else memory ran out
-abbrev pub StopsRead : FileKind → ThinErr → Stop → Type 0
-StopsRead kind thin.Refused (stop.Refused line) = line ≡ refused_line kind
-StopsRead kind thin.Refused stop.NoMemory = ⊤
-StopsRead kind thin.NoMemory stop.NoMemory = ⊤
-StopsRead kind fail s = ⊥
+-- the one fault of a text refuses its file, and else memory ran out
+abbrev pub StopsRead : FileKind → TextFail → Stop → Type 0
+StopsRead kind (fail.Bad e) (stop.Refused line) = line ≡ refusal_text kind e
+StopsRead kind (fail.Bad e) stop.NoMemory = ⊤
+StopsRead kind fail.NoMemory stop.NoMemory = ⊤
+StopsRead kind f s = ⊥

@@ -1,19 +1,20 @@
 ghost use Rattle.std.specs.Prelude.{◌≡◌, [], Some, None, IfOk};
-ghost use Rattle.mp_thintext.specs.Values.{IsGoodEntry, EachInRange};
+ghost use Rattle.mp_scripttext.specs.Entries.{IsGoodEntry};
+ghost use Rattle.mp_drill.specs.ScheduleValues.{EachInRange};
 ghost use Rattle.mp_run.specs.Goals.{IsBlock, events_of};
 ghost use Rattle.mp_run.specs.Goals.{is_closed as is_closed_of};
 
-use mp_drill::{Event, drill};
+use mp_drill::{Event, Section, drill};
 use mp_eval::evaluate;
 use mp_logic::{List as Items, NoMemory, Sym, Text, leaf_count};
 use mp_names::Names;
 use mp_refiner::Refiner;
 use mp_report::{result_text, trace_text};
+use mp_scripttext::Entry;
 use mp_strategy::{Outcome, Problem, TacId, Work};
 use mp_term::Sequent;
 use mp_termtext::push_bytes;
 use mp_theory::Theory;
-use mp_thintext::{Entry, Section};
 use std::alloc::Global;
 
 /// A goal's text, and whether its outcome is a tree without open leaves.

@@ -1,21 +1,21 @@
 ghost use Rattle.std.specs.Prelude.{◌≡◌, ◌&&◌, ℕ, List, IfOk};
 ghost use Rattle.std.specs.Io.KnownBytes.{Appends};
 ghost use Rattle.mp_run.specs.Goals.{IsBlock};
-ghost use Rattle.mp_thintext.specs.Values.{IsGoodEntry, EachGood};
+ghost use Rattle.mp_scripttext.specs.Entries.{IsGoodEntry, EachGood};
 ghost use Rattle.mp_run.specs.Loads.{GoalsWrite, ScheduleInRange};
 ghost use Rattle.mp_run.specs.Stops.{WriteCause};
 
 use crate::block::{Block, drill_block, seq_block};
-use crate::file::Status;
 use crate::loading::Loaded;
+use crate::status::Status;
 use crate::waiting::Waiting;
-use mp_drill::some_trace;
+use mp_drill::{Section, some_trace};
 use mp_logic::{List as Items, NoMemory};
 use mp_names::Names;
 use mp_ports::Sink;
+use mp_scripttext::Entry;
 use mp_term::Sequent;
 use mp_theory::Theory;
-use mp_thintext::{Entry, Section};
 use std::alloc::Global;
 
 /// The block of a goal.

@@ -3,20 +3,20 @@
 
 mod block;
 mod command;
-mod file;
 mod goals;
 mod laws;
 mod lines;
 mod loading;
 mod reading;
 mod run;
+mod status;
 mod stop;
 mod telling;
 mod waiting;
 
-pub use file::{FileKind, Status};
 pub use laws::one_answer;
 pub use run::run_here;
+pub use status::Status;
 
 #[cfg(test)]
 mod tests;

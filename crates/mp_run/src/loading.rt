@@ -1,18 +1,19 @@
-ghost use Rattle.std.specs.Prelude.{◌≡◌, ◌≤◌, length, map, IfOk, IsTrue};
-ghost use Rattle.mp_thintext.specs.Values.{are_plain, EachGood};
+ghost use Rattle.std.specs.Prelude.{◌≡◌, ◌≤◌, length, map, IfOk};
+ghost use Rattle.mp_scripttext.specs.Entries.{EachGood};
 ghost use Rattle.mp_run.specs.Headline.{Answers, ScriptAnswers, ScheduleAnswers};
 ghost use Rattle.mp_run.specs.Loads.{LoadsSo};
-ghost use Rattle.mp_run.specs.Runs.{ReadsFile};
+ghost use Rattle.mp_run.specs.Runs.{Keeps, ReadsFile};
 ghost use Rattle.mp_run.specs.Stops.{StopCause, command_seen, word_seen};
 
 use crate::command::Command;
 use crate::reading::{schedule_of, script_of, theory_of};
 use crate::stop::Stop;
+use mp_drill::Section;
 use mp_logic::{List, NoMemory, Sym, Text};
 use mp_names::Names;
 use mp_ports::Shelf;
+use mp_scripttext::Script;
 use mp_theory::Theory;
-use mp_thintext::{Script, Section};
 use std::alloc::Global;
 
 /// What the files of a command say.
@@ -50,6 +51,7 @@ fn with_schedule<H: Shelf>(
     requires room { length names ≤ 2097152 }
     requires good { EachGood theory script.entries }
     ensures answers { LoadsSo (ReadsFile (word_seen schedule.entry)) (ScheduleAnswers (H.bytes shelf.old) (word_seen schedule.entry) theory script names) result }
+    ensures kept { Keeps (H.bytes shelf.old) (H.bytes shelf.new) }
     ensures cause { StopCause (H.faults shelf.old) (H.faults shelf.new) (H.longs shelf.old) (H.longs shelf.new) result }
 {
     let Some(file) = schedule else {
@@ -85,8 +87,8 @@ fn with_script<H: Shelf>(
     schedule: Option<&Text>,
 ) -> Result<Loaded, Stop>
     requires room { length names ≤ 1048576 }
-    requires plain { IsTrue (are_plain theory) }
     ensures answers { LoadsSo (ReadsFile (word_seen schedule.entry)) (ScriptAnswers (H.bytes shelf.old) script.now (word_seen schedule.entry) theory names) result }
+    ensures kept { Keeps (H.bytes shelf.old) (H.bytes shelf.new) }
     ensures cause { StopCause (H.faults shelf.old) (H.faults shelf.new) (H.longs shelf.old) (H.longs shelf.new) result }
 {
     let mut names = names;
@@ -99,6 +101,7 @@ fn with_script<H: Shelf>(
 /// Reads the files of the command, in the order of its words.
 pub fn load<H: Shelf>(alloc: Global, shelf: &mut H, command: Command<'_>) -> Result<Loaded, Stop>
     ensures answers { LoadsSo (ReadsFile (word_seen command.entry.schedule)) (Answers (H.bytes shelf.old) (command_seen command.entry)) result }
+    ensures kept { Keeps (H.bytes shelf.old) (H.bytes shelf.new) }
     ensures cause { StopCause (H.faults shelf.old) (H.faults shelf.new) (H.longs shelf.old) (H.longs shelf.new) result }
 {
     let mut names = Names::new(alloc);

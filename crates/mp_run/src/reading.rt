@@ -1,16 +1,23 @@
-ghost use Rattle.std.specs.Prelude.{◌≡◌, ◌≤◌, ◌+◌, ◌-◌, ◌<◌, ◌^◌, ℕ, List, length, IfOk, IsTrue};
-ghost use Rattle.mp_thintext.specs.Texts.{ReadsTheory, ReadsScript, ReadsSchedule};
-ghost use Rattle.mp_thintext.specs.Values.{are_plain, EachGood, EachInRange};
+ghost use Rattle.std.specs.Prelude.{◌≡◌, ◌≤◌, ◌+◌, ◌-◌, ◌<◌, ◌^◌, ℕ, List, length, IfOk};
+ghost use Rattle.mp_theorytext.specs.Reading.{ReadsTheory};
+ghost use Rattle.mp_scripttext.specs.Reading.{ReadsScript};
+ghost use Rattle.mp_drill.specs.ScheduleReading.{ReadsSchedule};
+ghost use Rattle.mp_scripttext.specs.Entries.{EachGood};
+ghost use Rattle.mp_drill.specs.ScheduleValues.{EachInRange};
+ghost use Rattle.mp_run.specs.Runs.{Keeps};
 ghost use Rattle.mp_run.specs.Stops.{GivesBytes, GivesValue, StopCause, StopsRead};
 
-use crate::file::FileKind;
 use crate::lines::{refused, too_long};
 use crate::stop::Stop;
+use mp_drill::{Section, read_schedule};
 use mp_logic::{List as Items, Sym, Text};
 use mp_names::Names;
 use mp_ports::{ReadErr, Shelf};
+use mp_report::FileKind;
+use mp_scripttext::{Script, read_script};
+use mp_termtext::TextFail;
 use mp_theory::Theory;
-use mp_thintext::{Script, Section, ThinErr, read_schedule, read_script, read_theory};
+use mp_theorytext::read_theory;
 use std::alloc::Global;
 
 /// The limit on the length of a file, in bytes.
@@ -23,7 +30,7 @@ fn read_file<H: Shelf>(
     name: &Text,
     kind: FileKind,
 ) -> Result<Text, Stop>
-    ensures kept { (other : List ℕ) → H.bytes shelf.new other ≡ H.bytes shelf.old other }
+    ensures kept { Keeps (H.bytes shelf.old) (H.bytes shelf.new) }
     ensures gives { GivesBytes (H.bytes shelf.old name.now) kind result }
     ensures cause { StopCause (H.faults shelf.old) (H.faults shelf.new) (H.longs shelf.old) (H.longs shelf.new) result }
 {
@@ -36,12 +43,12 @@ fn read_file<H: Shelf>(
 }
 
 /// What ends a run whose file of this kind wasn't read.
-fn stop_of(alloc: Global, kind: FileKind, fail: ThinErr) -> Stop
+fn stop_of(alloc: Global, kind: FileKind, fail: TextFail) -> Stop
     ensures { StopsRead kind fail result }
 {
     match fail {
-        ThinErr::Refused => refused(alloc, kind),
-        ThinErr::NoMemory => Stop::NoMemory,
+        TextFail::Bad(error) => refused(alloc, kind, &error),
+        TextFail::NoMemory => Stop::NoMemory,
     }
 }
 
@@ -53,9 +60,8 @@ pub fn theory_of<H: Shelf>(
     name: &Text,
 ) -> Result<Theory, Stop>
     requires room { length names.old + 1048576 < 2 ^ 32 - 1 }
-    ensures kept { (other : List ℕ) → H.bytes shelf.new other ≡ H.bytes shelf.old other }
+    ensures kept { Keeps (H.bytes shelf.old) (H.bytes shelf.new) }
     ensures gives { GivesValue (H.bytes shelf.old name.now) FileKind.Theory (ReadsTheory names.old) names.new result }
-    ensures plain { IfOk result (λ theory. IsTrue (are_plain theory)) }
     ensures few { length names.new ≤ length names.old + 1048576 }
     ensures cause { StopCause (H.faults shelf.old) (H.faults shelf.new) (H.longs shelf.old) (H.longs shelf.new) result }
 {
@@ -75,8 +81,7 @@ pub fn script_of<H: Shelf>(
     name: &Text,
 ) -> Result<Script, Stop>
     requires room { length names.old + 1048576 < 2 ^ 32 - 1 }
-    requires plain { IsTrue (are_plain theory.now) }
-    ensures kept { (other : List ℕ) → H.bytes shelf.new other ≡ H.bytes shelf.old other }
+    ensures kept { Keeps (H.bytes shelf.old) (H.bytes shelf.new) }
     ensures gives { GivesValue (H.bytes shelf.old name.now) FileKind.Script (ReadsScript theory.now names.old) names.new result }
     ensures good { IfOk result (λ script. EachGood theory.now script.entries) }
     ensures few { length names.new ≤ length names.old + 1048576 }
@@ -98,7 +103,7 @@ pub fn schedule_of<H: Shelf>(
     name: &Text,
 ) -> Result<Items<Section>, Stop>
     requires room { length names.old + 1048576 < 2 ^ 32 - 1 }
-    ensures kept { (other : List ℕ) → H.bytes shelf.new other ≡ H.bytes shelf.old other }
+    ensures kept { Keeps (H.bytes shelf.old) (H.bytes shelf.new) }
     ensures gives { GivesValue (H.bytes shelf.old name.now) FileKind.Schedule (ReadsSchedule goals.now names.old) names.new result }
     ensures range { IfOk result EachInRange }
     ensures cause { StopCause (H.faults shelf.old) (H.faults shelf.new) (H.longs shelf.old) (H.longs shelf.new) result }

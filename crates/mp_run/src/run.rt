@@ -4,13 +4,13 @@ ghost use Rattle.mp_ports.specs.Causes.{Quiet};
 ghost use Rattle.mp_run.specs.Commands.{Command as CommandWords};
 ghost use Rattle.mp_run.specs.Commands.{command_of as command_of_words};
 ghost use Rattle.mp_run.specs.Headline.{RunAnswers};
-ghost use Rattle.mp_run.specs.Runs.{CommandWrites, RunWrites, RunCause, Completes, ReadsFile};
+ghost use Rattle.mp_run.specs.Runs.{CommandWrites, RunWrites, RunCause, Completes, FailsFile, Keeps};
 ghost use Rattle.mp_run.specs.Stops.{command_seen, word_seen};
 
 use crate::command::{Command, command_of};
-use crate::file::Status;
 use crate::goals::put_loaded;
 use crate::loading::load;
+use crate::status::Status;
 use crate::telling::{tell, tell_stop};
 use mp_logic::Text;
 use mp_ports::{Shelf, Sink};
@@ -27,8 +27,9 @@ fn run_command<H: Shelf, K: Sink>(
     shelf: &mut H,
     out: &mut K,
 ) -> Status
-    ensures writes { (text : List ℕ) × Appends (K.taken out.old) (K.taken out.new) text × CommandWrites (ReadsFile (word_seen command.entry.schedule)) (RunAnswers (H.bytes shelf.old) (H.longs shelf.old) (H.longs shelf.new) (command_seen command.entry)) result text }
+    ensures writes { (text : List ℕ) × Appends (K.taken out.old) (K.taken out.new) text × CommandWrites (FailsFile (H.faults shelf.old) (H.faults shelf.new) (word_seen command.entry.schedule)) (RunAnswers (H.bytes shelf.old) (H.longs shelf.old) (H.longs shelf.new) (command_seen command.entry)) result text }
     ensures cause { RunCause result (H.faults shelf.old) (H.faults shelf.new) (K.faults out.old) (K.faults out.new) }
+    ensures kept { Keeps (H.bytes shelf.old) (H.bytes shelf.new) }
 {
     match load(alloc, shelf, command) {
         Ok(loaded) => put_loaded(alloc, loaded, out),
@@ -49,7 +50,7 @@ pub fn run_here<H: Shelf, K: Sink>(
     out: &mut K,
 ) -> Status
     // Under each status, what was written.
-    ensures writes { (text : List ℕ) × Appends (K.taken out.old) (K.taken out.new) text × RunWrites (RunAnswers (H.bytes shelf.old) (H.longs shelf.old) (H.longs shelf.new)) (command_of_words words.now) result text }
+    ensures writes { (text : List ℕ) × Appends (K.taken out.old) (K.taken out.new) text × RunWrites (RunAnswers (H.bytes shelf.old) (H.longs shelf.old) (H.longs shelf.new)) (H.faults shelf.old) (H.faults shelf.new) (command_of_words words.now) result text }
     // Usage exactly where the words are no command.
     ensures usage { command_of_words words.now ≡ None → Quiet (K.faults out.old) (K.faults out.new) → result ≡ Status.Usage }
     // Where no fault is counted the whole answer was written, unless memory ran out.
@@ -58,6 +59,9 @@ pub fn run_here<H: Shelf, K: Sink>(
         → Completes (RunAnswers (H.bytes shelf.old) (H.longs shelf.old) (H.longs shelf.new) command) (K.taken out.old) (K.taken out.new) result }
     // A fault comes only where its count rose, and another status, memory aside, only where none did.
     ensures cause { RunCause result (H.faults shelf.old) (H.faults shelf.new) (K.faults out.old) (K.faults out.new) }
+    // What the shelf holds stays, and where the words are no command the shelf isn't touched.
+    ensures kept { Keeps (H.bytes shelf.old) (H.bytes shelf.new) }
+    ensures untouched { command_of_words words.now ≡ None → shelf.new ≡ shelf.old }
 {
     match command_of(words) {
         Some(command) => run_command(alloc, command, shelf, out),

@@ -1,5 +1,5 @@
-use crate::file::FileKind;
 use mp_logic::Text;
+use mp_report::FileKind;
 
 /// What ends a run before its goals.
 #[derive(Drop)]

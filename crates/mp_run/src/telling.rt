@@ -2,8 +2,8 @@ ghost use Rattle.std.specs.Prelude.{◌≡◌, ◌≢◌, ℕ, List};
 ghost use Rattle.std.specs.Io.KnownBytes.{Appends};
 ghost use Rattle.mp_run.specs.Stops.{TellWrites, StopWrites, WriteCause};
 
-use crate::file::Status;
 use crate::lines::fault_line;
+use crate::status::Status;
 use crate::stop::Stop;
 use mp_ports::Sink;
 use std::alloc::Global;

@@ -4,8 +4,25 @@ use mp_ports::{MemShelf, MemSink};
 use std::alloc::Global;
 use std::test::Fail;
 
-/// Two rules without binders.
-const THEORY: &str = "rule true_i : ==> >- true\nrule and_i : >- 'A, >- 'B ==> >- and{'A; 'B}\n";
+/// First-order logic.
+const THEORY: &str = "rule true_i : ==> <H> >- true\n\
+    rule hyp : ==> <H>; x: 'A<H>; <J<H>['x]> >- 'A<H>\n\
+    rule cut : <H> >- 'A<H>, <H>; x: 'A<H> >- 'C<H> ==> <H> >- 'C<H>\n\
+    rule and_i : <H> >- 'A<H>, <H> >- 'B<H> ==> <H> >- and{'A<H>; 'B<H>}\n\
+    rule and_e : <H>; x: 'A<H>; y: 'B<H>; <J<H>> >- 'C<H;J>\n\
+    \x20\x20==> <H>; z: and{'A<H>; 'B<H>}; <J<H>> >- 'C<H;J>\n\
+    rule or_l : <H> >- 'A<H> ==> <H> >- or{'A<H>; 'B<H>}\n\
+    rule or_r : <H> >- 'B<H> ==> <H> >- or{'A<H>; 'B<H>}\n\
+    rule or_e : <H>; x: 'A<H>; <J<H>> >- 'C<H;J>, <H>; x: 'B<H>; <J<H>> >- 'C<H;J>\n\
+    \x20\x20==> <H>; z: or{'A<H>; 'B<H>}; <J<H>> >- 'C<H;J>\n\
+    rule imp_i : <H>; x: 'A<H> >- 'B<H> ==> <H> >- imp{'A<H>; 'B<H>}\n\
+    rule imp_e : <H>; z: imp{'A<H>; 'B<H>}; <J<H>> >- 'A<H>,\n\
+    \x20\x20<H>; z: imp{'A<H>; 'B<H>}; <J<H>>; y: 'B<H> >- 'C<H;J>\n\
+    \x20\x20==> <H>; z: imp{'A<H>; 'B<H>}; <J<H>> >- 'C<H;J>\n\
+    rule all_i : <H>; x: 'A<H> >- 'B<H>['x] ==> <H> >- all{'A<H>; y. 'B<H>['y]}\n\
+    rule all_e : <H>; z: all{'A<H>; y. 'B<H>['y]}; <J<H>>; w: 'B<H>['T<H;J>] >- 'C<H;J>\n\
+    \x20\x20==> <H>; z: all{'A<H>; y. 'B<H>['y]}; <J<H>> >- 'C<H;J>\n\
+    rule eq_refl : ==> <H> >- eq{'A<H>; 'A<H>}\n";
 
 const SCRIPT: &str = "goal g fuel 5 : >- and{true; true} by rule and_i then rule true_i";
 
@@ -41,9 +58,9 @@ fn shelf(alloc: Global, files: [&str; 3], fails: &[u64]) -> Result<MemShelf, Fai
     Ok(MemShelf::new(List::from_vec(made), List::from_vec(fails.to_vec(alloc)?)))
 }
 
-/// A sink with room for 4,096 bytes, whose listed calls fail.
+/// A sink with room for 131,072 bytes, whose listed calls fail.
 fn sink(alloc: Global, fails: &[(u64, u64)]) -> Result<MemSink, Fail> {
-    match MemSink::new(alloc, 4096, List::from_vec(fails.to_vec(alloc)?)) {
+    match MemSink::new(alloc, 131072, List::from_vec(fails.to_vec(alloc)?)) {
         Ok(made) => Ok(made),
         Err(_) => Err(Fail::from("no memory")),
     }
@@ -210,24 +227,637 @@ fn a_file_of_the_limit_is_read(rt: HostRuntime) -> Result<(), Fail> {
     Ok(())
 }
 
+/// Whether the drill of these files is refused with this line.
+fn refuses(alloc: Global, files: [&str; 3], line: &str) -> Result<bool, Fail> {
+    runs(alloc, DRILL, files, (Status::Refused, line))
+}
+
 #[test]
-fn a_file_of_another_form_is_refused(rt: HostRuntime) -> Result<(), Fail> {
-    for (files, out) in [
-        (["rule r$", SCRIPT, ""], "refused: theory\n"),
-        (["rule r : ==> >- p{'x}", SCRIPT, ""], "refused: theory\n"),
-        ([THEORY, "goal g", ""], "refused: script\n"),
+fn a_theory_or_a_schedule_is_refused_at_its_fault(rt: HostRuntime) -> Result<(), Fail> {
+    for (files, line) in [
+        (["rule r$", SCRIPT, ""], "refused: theory byte 6: BadByte\n"),
+        (["rule", SCRIPT, ""], "refused: theory byte 4: Syntax\n"),
         (
-            [THEORY, "goal g : >- true by rule r", ""],
-            "refused: script\n",
+            ["rule r : ==> >- p{'x}", SCRIPT, ""],
+            "refused: theory byte 18: UnboundVar\n",
         ),
-        ([THEORY, SCRIPT, "claim 1"], "refused: schedule\n"),
-        ([THEORY, SCRIPT, "goal h claim 1"], "refused: schedule\n"),
-        ([THEORY, SCRIPT, "goal g claim 65"], "refused: schedule\n"),
-        ([THEORY, SCRIPT, "goal g die 0"], "refused: schedule\n"),
+        (
+            ["rule r : ==> >- a rule r : ==> >- b", SCRIPT, ""],
+            "refused: theory byte 23: Taken\n",
+        ),
+        (
+            [THEORY, SCRIPT, "claim 1"],
+            "refused: schedule byte 0: Syntax\n",
+        ),
+        (
+            [THEORY, SCRIPT, "goal h claim 1"],
+            "refused: schedule byte 5: UnknownName\n",
+        ),
+        (
+            [THEORY, SCRIPT, "goal g claim 65"],
+            "refused: schedule byte 13: BadNumber\n",
+        ),
+        (
+            [THEORY, SCRIPT, "goal g die 0"],
+            "refused: schedule byte 11: BadNumber\n",
+        ),
+        (
+            [THEORY, SCRIPT, "goal g send 1 0"],
+            "refused: schedule byte 14: BadNumber\n",
+        ),
+        (
+            [THEORY, SCRIPT, "goal g claim 1 goal g"],
+            "refused: schedule byte 20: Taken\n",
+        ),
+        (
+            [THEORY, SCRIPT, "goal h goal g claim 65"],
+            "refused: schedule byte 5: UnknownName\n",
+        ),
+        (
+            ["rule r$", "goal g$", "goal$"],
+            "refused: theory byte 6: BadByte\n",
+        ),
+        (
+            [THEORY, "goal g$", "goal$"],
+            "refused: script byte 6: BadByte\n",
+        ),
     ] {
-        let due = (Status::Refused, out);
-        assert!(rt; runs(rt.alloc(), DRILL, files, due)?, "{files:?}");
+        assert!(rt; refuses(rt.alloc(), files, line)?, "{files:?}");
     }
+    Ok(())
+}
+
+#[test]
+fn a_script_is_refused_at_its_fault(rt: HostRuntime) -> Result<(), Fail> {
+    for (script, line) in [
+        ("goal g$", "refused: script byte 6: BadByte\n"),
+        (
+            "goal aaaaaaaaaaaaaaaaaaaaaaaaaaaaaaaaaaaaaaaaaaaaaaaaaaaaaaaaaaaaaaaaa : >- a by id",
+            "refused: script byte 5: LongName\n",
+        ),
+        (
+            "goal g fuel 01 : >- a by id",
+            "refused: script byte 12: BadNumber\n",
+        ),
+        (
+            "goal g : >- p[\"a] by id",
+            "refused: script byte 14: BadString\n",
+        ),
+        ("rule", "refused: script byte 0: Syntax\n"),
+        (
+            "goal g fuel : >- a by id",
+            "refused: script byte 12: Syntax\n",
+        ),
+        ("goal g : >- a by ", "refused: script byte 17: Syntax\n"),
+        (
+            "goal g : >- a by id orelse id",
+            "refused: script byte 20: Syntax\n",
+        ),
+        (
+            "goal g : >- a by (id then id",
+            "refused: script byte 28: Syntax\n",
+        ),
+        (
+            "goal g : >- a by rule hyp at x",
+            "refused: script byte 29: Syntax\n",
+        ),
+        (
+            "goal g : >- a by rule cut with (A := a)",
+            "refused: script byte 31: Syntax\n",
+        ),
+        (
+            "goal g : >- a by rule cut with [A : a]",
+            "refused: script byte 34: Syntax\n",
+        ),
+        (
+            "goal g : >- a by rule cut with []",
+            "refused: script byte 32: Syntax\n",
+        ),
+        (
+            "goal g : >- a by rule cut with [A := a] at 1",
+            "refused: script byte 40: Syntax\n",
+        ),
+        (
+            "goal g : >- a by rule cut with [A := y, 5]",
+            "refused: script byte 40: Syntax\n",
+        ),
+        (
+            "goal g : >- a by rule cut with [A := a, B := a]",
+            "refused: script byte 40: Syntax\n",
+        ),
+        (
+            "goal g : >- a goal h : >- a by id",
+            "refused: script byte 14: Syntax\n",
+        ),
+        (
+            "goal g : >- a by id goal g : >- a by id",
+            "refused: script byte 25: Taken\n",
+        ),
+        (
+            "goal g : >- a by rule no",
+            "refused: script byte 22: UnknownName\n",
+        ),
+        (
+            "goal g : >- p[1; 1; 1; 1; 1; 1; 1; 1; 1; 1; 1; 1; 1; 1; 1; 1; 1] by id",
+            "refused: script byte 62: TooMany\n",
+        ),
+        (
+            "goal g : >- p{a, b, c, d, e, f, g, h, i. c} by id",
+            "refused: script byte 38: TooMany\n",
+        ),
+        (
+            "goal g fuel 401 : >- a by id",
+            "refused: script byte 12: BadNumber\n",
+        ),
+        (
+            "goal g fuel -1 : >- a by id",
+            "refused: script byte 12: BadNumber\n",
+        ),
+        (
+            "goal g : >- a by rule hyp at 0",
+            "refused: script byte 29: BadNumber\n",
+        ),
+        (
+            "goal g : >- a by rule hyp at 202",
+            "refused: script byte 29: BadNumber\n",
+        ),
+        (
+            "goal g : >- p{'x} by id",
+            "refused: script byte 14: UnboundVar\n",
+        ),
+        (
+            "goal g : >- a by rule cut with [A := p{'x201}]",
+            "refused: script byte 39: UnboundVar\n",
+        ),
+        (
+            "goal g : >- a by rule hyp",
+            "refused: script byte 22: AtNeeded\n",
+        ),
+        (
+            "goal g : >- a by rule true_i at 1",
+            "refused: script byte 32: AtRefused\n",
+        ),
+        (
+            "goal g : >- a by rule cut",
+            "refused: script byte 22: MissingWith\n",
+        ),
+        (
+            "goal g : >- a by rule cut with [A := a; B := a]",
+            "refused: script byte 40: ExtraWith\n",
+        ),
+        (
+            "goal g : >- a by rule cut with [A := a; A := a]",
+            "refused: script byte 40: TwiceWith\n",
+        ),
+        (
+            "goal g : >- a by rule cut with [A := y. a]",
+            "refused: script byte 32: BadArity\n",
+        ),
+    ] {
+        assert!(rt;
+            refuses(rt.alloc(), [THEORY, script, ""], line)?,
+            "{script}"
+        );
+    }
+    Ok(())
+}
+
+#[test]
+fn of_two_faults_the_sooner_one_is_told(rt: HostRuntime) -> Result<(), Fail> {
+    for (script, line) in [
+        (
+            "goal g fuel 401 : >- p{'x} by rule no",
+            "refused: script byte 12: BadNumber\n",
+        ),
+        (
+            "goal g : >- p{'x} by rule no goal g : >- a by id",
+            "refused: script byte 14: UnboundVar\n",
+        ),
+        (
+            "goal g : >- a by rule true_i at 0",
+            "refused: script byte 32: BadNumber\n",
+        ),
+        (
+            "goal g : >- a by rule all_e",
+            "refused: script byte 22: AtNeeded\n",
+        ),
+        (
+            "goal g : >- a by rule cut with [A := a; A := y. a]",
+            "refused: script byte 40: TwiceWith\n",
+        ),
+    ] {
+        assert!(rt;
+            refuses(rt.alloc(), [THEORY, script, ""], line)?,
+            "{script}"
+        );
+    }
+    Ok(())
+}
+
+/// `before`, so many times `part`, and `after`.
+fn around(
+    alloc: Global,
+    before: &str,
+    part: &str,
+    times: usize,
+    after: &str,
+) -> Result<String, Fail> {
+    let mut made = String::new(alloc);
+    made.push_str(before)?;
+    made.push_str(part.repeat(alloc, times)?.as_str())?;
+    made.push_str(after)?;
+    Ok(made)
+}
+
+#[test]
+fn a_script_beyond_a_limit_is_refused(rt: HostRuntime) -> Result<(), Fail> {
+    let alloc = rt.alloc();
+    for (before, part, times, after, line) in [
+        (
+            "goal g : >- a by id",
+            " then id",
+            64,
+            "",
+            "refused: script byte 17: TooDeep\n",
+        ),
+        (
+            "goal g : >- a by id",
+            " then (id then id)",
+            1024,
+            "",
+            "refused: script byte 5: TooMany\n",
+        ),
+        (
+            "goal g : ",
+            "h: p; ",
+            200,
+            "h: p >- a by id",
+            "refused: script byte 1209: TooMany\n",
+        ),
+        (
+            "goal g : >- f{a",
+            "; a",
+            19999,
+            "} by id",
+            "refused: script byte 9: TooBig\n",
+        ),
+        (
+            "goal g : >- a by rule cut with [A := f{a",
+            "; a",
+            19999,
+            "}]",
+            "refused: script byte 37: TooBig\n",
+        ),
+        (
+            "goal g : >- a by ",
+            "(",
+            251,
+            "id",
+            "refused: script byte 267: TooNested\n",
+        ),
+    ] {
+        let script = around(alloc, before, part, times, after)?;
+        assert!(rt;
+            refuses(alloc, [THEORY, script.as_str(), ""], line)?,
+            "{part}"
+        );
+    }
+    Ok(())
+}
+
+/// How the run of the script in the theory ends.
+fn ends(alloc: Global, script: &str) -> Result<Status, Fail> {
+    let words = texts(alloc, SEQ)?;
+    let mut shelf = shelf(alloc, [THEORY, script, ""], &[])?;
+    let mut sink = sink(alloc, &[])?;
+    Ok(run_here(alloc, words.as_slice(), &mut shelf, &mut sink))
+}
+
+#[test]
+fn a_script_may_reach_each_limit(rt: HostRuntime) -> Result<(), Fail> {
+    let alloc = rt.alloc();
+    for (before, part, times, after) in [
+        ("goal g : >- a by id", " then id", 63, ""),
+        ("goal g : ", "h: p; ", 199, "h: p >- a by id"),
+        ("goal g : >- f{a", "; a", 19998, "} by id"),
+        (
+            "goal g : >- a by rule cut with [A := f{a",
+            "; a",
+            19998,
+            "}]",
+        ),
+        ("goal n", "n", 63, " : >- a by id"),
+        ("goal g fuel 0", " ", 1, ": >- a by id"),
+        ("goal g fuel 400", " ", 1, ": >- a by id"),
+        ("goal g : >- a by rule hyp at 1", " ", 1, ""),
+        ("goal g : >- a by rule hyp at 201", " ", 1, ""),
+        ("goal g : >- a by rule cut with [A := 'x200]", " ", 1, ""),
+    ] {
+        let script = around(alloc, before, part, times, after)?;
+        assert_eq!(rt; ends(alloc, script.as_str())?, Status::NotAll, "{before}");
+    }
+    Ok(())
+}
+
+/// A rule with two needs, and one whose need has an argument.
+const NEEDY: &str = "rule two : >- f{'A; 'B} ==> >- g\nrule at_c : <H> >- 'P<H>[c] ==> <H> >- g\n";
+
+#[test]
+fn needs_are_given_in_any_order_and_behind_binders(rt: HostRuntime) -> Result<(), Fail> {
+    for (script, out) in [
+        (
+            "goal g : >- g by rule two with [B := b; A := a]",
+            "goal g: 1 open\nrule two with [A := a; B := b] | >- g\n  open | >- f{a; b}\n",
+        ),
+        (
+            "goal g : h: q >- g by rule at_c with [P := x1. p{'x1}]",
+            "goal g: 1 open\nrule at_c with [P := x201. p{'x201}] | x1: q >- g\n  open | x1: q >- p{c}\n",
+        ),
+        (
+            "goal g : h: q >- g by rule at_c with [P := y. p{'x1; 'y}]",
+            "goal g: 1 open\nrule at_c with [P := x201. p{'x1; 'x201}] | x1: q >- g\n  open | x1: q >- p{'x1; c}\n",
+        ),
+    ] {
+        let due = (Status::NotAll, out);
+        assert!(rt;
+            runs(rt.alloc(), SEQ, [NEEDY, script, ""], due)?,
+            "{script}"
+        );
+    }
+    Ok(())
+}
+
+/// Two rules that make a goal of `2 * n + 2` and one of `2 * n + 3` nodes of one of `n + 1`.
+const DOUBLING: &str = "rule dbl : <H> >- p{'A<H>; 'A<H>; z} ==> <H> >- g{'A<H>}\n\
+    rule more : <H> >- p{'A<H>; 'A<H>; z; z} ==> <H> >- g{'A<H>}\n";
+
+#[test]
+fn a_subgoal_has_at_most_20000_nodes(rt: HostRuntime) -> Result<(), Fail> {
+    let alloc = rt.alloc();
+    let term = around(alloc, "w{z", "; z", 9997, "}")?;
+    let small = around(alloc, ">- g{", term.as_str(), 1, "}")?;
+    let double = around(
+        alloc,
+        ">- p{",
+        around(
+            alloc,
+            "",
+            around(alloc, term.as_str(), "; ", 1, "")?.as_str(),
+            2,
+            "",
+        )?
+        .as_str(),
+        1,
+        "z}",
+    )?;
+    let script = around(alloc, "goal g : ", small.as_str(), 1, " by rule dbl")?;
+    let first = around(
+        alloc,
+        "goal g: 1 open\nrule dbl | ",
+        small.as_str(),
+        1,
+        "\n  open | ",
+    )?;
+    let out = around(alloc, first.as_str(), double.as_str(), 1, "\n")?;
+    assert!(rt;
+        runs(
+            alloc,
+            SEQ,
+            [DOUBLING, script.as_str(), ""],
+            (Status::NotAll, out.as_str())
+        )?
+    );
+    let script = around(alloc, "goal g : ", small.as_str(), 1, " by rule more")?;
+    let out = around(
+        alloc,
+        "goal g: failed TooLarge at strategy 1 | ",
+        small.as_str(),
+        1,
+        "\n",
+    )?;
+    assert!(rt;
+        runs(
+            alloc,
+            SEQ,
+            [DOUBLING, script.as_str(), ""],
+            (Status::NotAll, out.as_str())
+        )?
+    );
+    Ok(())
+}
+
+#[test]
+fn goals_have_hypotheses_binders_and_given_terms(rt: HostRuntime) -> Result<(), Fail> {
+    for (script, status, out) in [
+        (
+            "goal g fuel 0 : >- true by id",
+            Status::NotAll,
+            "goal g: 1 open\nopen | >- true\n",
+        ),
+        (
+            "goal g : a: nat; b: nat >- all{nat; x. p{'x}} by rule all_i",
+            Status::NotAll,
+            "goal g: 1 open\nrule all_i | x1: nat; x2: nat >- all{nat; x3. p{'x3}}\n  open | x1: nat; x2: nat; x3: nat >- p{'x3}\n",
+        ),
+        (
+            "goal g : a: nat; b: p{'a}; c: q{'b} >- p{'a} by rule hyp at 2",
+            Status::AllClosed,
+            "goal g: closed\nrule hyp at 2 | x1: nat; x2: p{'x1}; x3: q{'x2} >- p{'x1}\n",
+        ),
+        (
+            "goal g : a: nat; b: p{'a}; c: q{'b} >- p{'a} by rule hyp at 4",
+            Status::NotAll,
+            "goal g: failed NoMatch at strategy 1 | x1: nat; x2: p{'x1}; x3: q{'x2} >- p{'x1}\n",
+        ),
+        (
+            "goal g : a: nat >- true by rule cut with [A := p{'x2}]",
+            Status::NotAll,
+            "goal g: failed BadArgument at strategy 1 | x1: nat >- true\n",
+        ),
+    ] {
+        assert!(rt;
+            runs(rt.alloc(), SEQ, [THEORY, script, ""], (status, out))?,
+            "{script}"
+        );
+    }
+    Ok(())
+}
+
+#[test]
+fn each_rule_fits_one_goal_and_not_another(rt: HostRuntime) -> Result<(), Fail> {
+    for (script, out) in [
+        (
+            "goal true_i : a: p >- true by rule true_i",
+            "goal true_i: closed\nrule true_i | x1: p >- true\n",
+        ),
+        (
+            "goal true_i_not : >- p by rule true_i",
+            "goal true_i_not: failed NoMatch at strategy 1 | >- p\n",
+        ),
+        (
+            "goal hyp : a: p; b: q >- p by rule hyp at 1",
+            "goal hyp: closed\nrule hyp at 1 | x1: p; x2: q >- p\n",
+        ),
+        (
+            "goal hyp_not : a: p; b: q >- p by rule hyp at 2",
+            "goal hyp_not: failed NoMatch at strategy 1 | x1: p; x2: q >- p\n",
+        ),
+        (
+            "goal cut : >- p by rule cut with [A := q]",
+            "goal cut: 2 open\nrule cut with [A := q] | >- p\n  open | >- q\n  open | x1: q >- p\n",
+        ),
+        (
+            "goal cut_not : a: p >- p by rule cut with [A := q{'x2}]",
+            "goal cut_not: failed BadArgument at strategy 1 | x1: p >- p\n",
+        ),
+        (
+            "goal and_i : >- and{p; q} by rule and_i",
+            "goal and_i: 2 open\nrule and_i | >- and{p; q}\n  open | >- p\n  open | >- q\n",
+        ),
+        (
+            "goal and_i_not : >- or{p; q} by rule and_i",
+            "goal and_i_not: failed NoMatch at strategy 1 | >- or{p; q}\n",
+        ),
+        (
+            "goal and_e : a: and{p; q}; b: r >- s{'b} by rule and_e at 1",
+            "goal and_e: 1 open\nrule and_e at 1 | x1: and{p; q}; x2: r >- s{'x2}\n  open | x1: p; x2: q; x3: r >- s{'x3}\n",
+        ),
+        (
+            "goal and_e_not : a: and{p; q}; b: r >- s{'a} by rule and_e at 1",
+            "goal and_e_not: failed NoMatch at strategy 1 | x1: and{p; q}; x2: r >- s{'x1}\n",
+        ),
+        (
+            "goal or_l : >- or{p; q} by rule or_l",
+            "goal or_l: 1 open\nrule or_l | >- or{p; q}\n  open | >- p\n",
+        ),
+        (
+            "goal or_l_not : >- and{p; q} by rule or_l",
+            "goal or_l_not: failed NoMatch at strategy 1 | >- and{p; q}\n",
+        ),
+        (
+            "goal or_r : >- or{p; q} by rule or_r",
+            "goal or_r: 1 open\nrule or_r | >- or{p; q}\n  open | >- q\n",
+        ),
+        (
+            "goal or_r_not : >- p by rule or_r",
+            "goal or_r_not: failed NoMatch at strategy 1 | >- p\n",
+        ),
+        (
+            "goal or_e : a: or{p; q} >- r by rule or_e at 1",
+            "goal or_e: 2 open\nrule or_e at 1 | x1: or{p; q} >- r\n  open | x1: p >- r\n  open | x1: q >- r\n",
+        ),
+        (
+            "goal or_e_not : a: and{p; q} >- r by rule or_e at 1",
+            "goal or_e_not: failed NoMatch at strategy 1 | x1: and{p; q} >- r\n",
+        ),
+        (
+            "goal imp_i : a: p >- imp{q; r{'a}} by rule imp_i",
+            "goal imp_i: 1 open\nrule imp_i | x1: p >- imp{q; r{'x1}}\n  open | x1: p; x2: q >- r{'x1}\n",
+        ),
+        (
+            "goal imp_i_not : >- imp{p} by rule imp_i",
+            "goal imp_i_not: failed NoMatch at strategy 1 | >- imp{p}\n",
+        ),
+        (
+            "goal imp_e : a: imp{p; q} >- r by rule imp_e at 1",
+            "goal imp_e: 2 open\nrule imp_e at 1 | x1: imp{p; q} >- r\n  open | x1: imp{p; q} >- p\n  open | x1: imp{p; q}; x2: q >- r\n",
+        ),
+        (
+            "goal imp_e_not : a: imp{p; q} >- r by rule imp_e at 2",
+            "goal imp_e_not: failed NoMatch at strategy 1 | x1: imp{p; q} >- r\n",
+        ),
+        (
+            "goal all_i : >- all{nat; x. p{'x}} by rule all_i",
+            "goal all_i: 1 open\nrule all_i | >- all{nat; x1. p{'x1}}\n  open | x1: nat >- p{'x1}\n",
+        ),
+        (
+            "goal all_i_not : >- all{nat; p} by rule all_i",
+            "goal all_i_not: failed NoMatch at strategy 1 | >- all{nat; p}\n",
+        ),
+        (
+            "goal all_e : a: all{nat; y. p{'y}}; b: nat >- q by rule all_e at 1 with [T := 'x2]",
+            "goal all_e: 1 open\nrule all_e at 1 with [T := 'x2] | x1: all{nat; x1. p{'x1}}; x2: nat >- q\n  open | x1: all{nat; x1. p{'x1}}; x2: nat; x3: p{'x2} >- q\n",
+        ),
+        (
+            "goal all_e_not : a: p >- q by rule all_e at 1 with [T := c]",
+            "goal all_e_not: failed NoMatch at strategy 1 | x1: p >- q\n",
+        ),
+        (
+            "goal eq_refl : >- eq{f{c}; f{c}} by rule eq_refl",
+            "goal eq_refl: closed\nrule eq_refl | >- eq{f{c}; f{c}}\n",
+        ),
+        (
+            "goal eq_refl_not : >- eq{c; d} by rule eq_refl",
+            "goal eq_refl_not: failed NoMatch at strategy 1 | >- eq{c; d}\n",
+        ),
+    ] {
+        let closed = out.contains(": closed");
+        let status = if closed {
+            Status::AllClosed
+        } else {
+            Status::NotAll
+        };
+        assert!(rt;
+            runs(rt.alloc(), SEQ, [THEORY, script, ""], (status, out))?,
+            "{script}"
+        );
+    }
+    Ok(())
+}
+
+/// The three goals of the chapter on scripts in the documents.
+const GOALS: &str = "goal g : a: nat; b: p{'a}; c: q{'b} >- p{'a} by rule hyp at 2\n\
+    goal h : c: or{p; q} >- p by rule cut with [A := or{q; p}]\n\
+    goal i : >- all{nat; x. imp{p{'x}; p{'x}}} by rule all_i then (rule imp_i then rule hyp at 2)\n";
+
+const FIRST: &str = "goal g: closed\nrule hyp at 2 | x1: nat; x2: p{'x1}; x3: q{'x2} >- p{'x1}\n";
+
+const OTHERS: [&str; 2] = [
+    "goal h: 2 open\nrule cut with [A := or{q; p}] | x1: or{p; q} >- p\n  open | x1: or{p; q} >- or{q; p}\n  open | x1: or{p; q}; x2: or{q; p} >- p\n",
+    "goal i: closed\nrule all_i | >- all{nat; x1. imp{p{'x1}; p{'x1}}}\n  rule imp_i | x1: nat >- imp{p{'x1}; p{'x1}}\n    rule hyp at 2 | x1: nat; x2: p{'x1} >- p{'x1}\n",
+];
+
+#[test]
+fn the_goals_of_the_documents_print_as_there(rt: HostRuntime) -> Result<(), Fail> {
+    let alloc = rt.alloc();
+    let [second, third] = OTHERS;
+    let out = around(alloc, FIRST, second, 1, third)?;
+    assert!(rt;
+        runs(
+            alloc,
+            SEQ,
+            [THEORY, GOALS, ""],
+            (Status::NotAll, out.as_str())
+        )?
+    );
+    let schedule =
+        "goal g claim 1 lose 1 claim 2 send 1 send 2 10 again 2 claim 3 send 4\ngoal h\n";
+    let replies =
+        "drill g\nclaim 1: ticket 1\nlose 1: back 1\nclaim 2: ticket 2\nsend 1 256: stale\nsend 2 10: taken\nagain 2: stale\nclaim 3: finished\nsend 4 256: empty\n";
+    let first = around(alloc, replies, FIRST, 1, "drill h\n")?;
+    let last = around(alloc, second, "drill i\n", 1, third)?;
+    let out = around(alloc, first.as_str(), last.as_str(), 1, "")?;
+    assert!(rt;
+        runs(
+            alloc,
+            DRILL,
+            [THEORY, GOALS, schedule],
+            (Status::NotAll, out.as_str())
+        )?
+    );
+    Ok(())
+}
+
+#[test]
+fn a_write_that_fails_leaves_the_goals_before_it(rt: HostRuntime) -> Result<(), Fail> {
+    let alloc = rt.alloc();
+    let script = "goal a : >- true by rule true_i goal b : >- true by id";
+    let due = (
+        Status::WriteFault,
+        "goal a: closed\nrule true_i | >- true\ngoal",
+    );
+    let files = shelf(alloc, [THEORY, script, ""], &[])?;
+    assert!(rt; gives(alloc, SEQ, files, sink(alloc, &[(2, 4)])?, due)?);
     Ok(())
 }
 

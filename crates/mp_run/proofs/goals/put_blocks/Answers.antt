@@ -1,8 +1,8 @@
 use Rattle.std.proofs.Common.{List, ℕ, subst, sym, ◌∙◌, Bool}
 use Rattle.mp_ports.specs.Sinks.{TakesPrefix}
 use Rattle.std.specs.Io.KnownBytes.{Appends}
-use Rattle.mp_thintext.specs.declared.script.Entry.{Entry}
-use Rattle.mp_thintext.specs.Values.{EachGood}
+use Rattle.mp_scripttext.specs.declared.script.Entry.{Entry}
+use Rattle.mp_scripttext.specs.Entries.{EachGood}
 use Rattle.mp_run.specs.Goals.{IsBlock}
 use Rattle.mp_run.proofs.PutBlocks.{Put, one_put, gives_up, breaks_off, all_put_closed, all_put_open, some_blocks}
 use Rattle.mp_run.proofs.goals.put_blocks.Goals as goal

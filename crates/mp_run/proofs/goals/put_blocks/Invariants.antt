@@ -1,5 +1,5 @@
 use Rattle.std.proofs.Common.{◌≡◌, length}
-use Rattle.mp_thintext.specs.Values.{EachGood}
+use Rattle.mp_scripttext.specs.Entries.{EachGood}
 use Rattle.mp_run.specs.Goals.{IsBlock}
 use Rattle.mp_run.proofs.PutBlocks.{Put}
 use Rattle.mp_run.proofs.goals.put_blocks.Given as goal

@@ -4,6 +4,5 @@ use Rattle.mp_run.proofs.laws.one_answer.Goals as goal
 
 pub returns : goal.returns
 returns c =
-    let texts = c.one_text.ensures in
-    let one : OneAnswer = λ files command told. one_answer_to c.one_trace.ensures texts.theory texts.script texts.schedule files command told in
+    let one : OneAnswer = λ files command told. one_answer_to c.one_trace.ensures c.one_text.ensures c.one_text-2.ensures c.one_schedule_text.ensures files command told in
     record { answer = one; output = one_output one }

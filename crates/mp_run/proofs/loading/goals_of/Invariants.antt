@@ -1,5 +1,5 @@
 use Rattle.std.proofs.Common.{◌≡◌, ◌++◌, map, drop}
-use Rattle.mp_thintext.specs.declared.script.Entry.{Entry}
+use Rattle.mp_scripttext.specs.declared.script.Entry.{Entry}
 use Rattle.mp_run.proofs.loading.goals_of.Given as goal
 
 abbrev pub invariant-loop-entry : goal.invariant-loop-entry

@@ -1,5 +1,5 @@
-use Rattle.mp_thintext.specs.Texts.{ReadsSchedule}
-use Rattle.mp_run.specs.declared.file.FileKind.TheVariants.{Schedule}
+use Rattle.mp_drill.specs.ScheduleReading.{ReadsSchedule}
+use Rattle.mp_report.specs.declared.refusal.FileKind.TheVariants.{Schedule}
 use Rattle.mp_run.proofs.Files.{says_nothing}
 use Rattle.mp_run.proofs.reading.schedule_of.Goals as goal
 

@@ -1,5 +1,5 @@
-use Rattle.mp_thintext.specs.Texts.{ReadsScript}
-use Rattle.mp_run.specs.declared.file.FileKind.TheVariants.{Script}
+use Rattle.mp_scripttext.specs.Reading.{ReadsScript}
+use Rattle.mp_report.specs.declared.refusal.FileKind.TheVariants.{Script}
 use Rattle.mp_run.proofs.Files.{says_nothing, says_value}
 use Rattle.mp_run.proofs.reading.script_of.Goals as goal
 

@@ -1,5 +1,5 @@
-use Rattle.mp_thintext.specs.Texts.{ReadsTheory}
-use Rattle.mp_run.specs.declared.file.FileKind.TheVariants.{Theory}
+use Rattle.mp_theorytext.specs.Reading.{ReadsTheory}
+use Rattle.mp_report.specs.declared.refusal.FileKind.TheVariants.{Theory}
 use Rattle.mp_run.proofs.Files.{says_nothing}
 use Rattle.mp_run.proofs.reading.theory_of.Goals as goal
 
