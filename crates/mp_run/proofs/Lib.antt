@@ -3,6 +3,13 @@ pub mod GoalBlocks
 pub mod FileOrder
 pub mod PutBlocks
 pub mod SameWorks
+pub mod SomeAnswer
+pub mod Total
+pub mod TotalParts
+pub mod TotalPatterns
+pub mod TotalSchedules
+pub mod TotalScripts
+pub mod TotalTerms
 pub mod Uniqueness
 pub mod Words
 pub mod Writes

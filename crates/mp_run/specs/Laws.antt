@@ -1,4 +1,4 @@
--- One answer to the words and the files.
+-- The answer to the words and the files: there is one, and only one.
 use Rattle.std.specs.Prelude.{◌≡◌, ℕ, List, Option, IfSome, IsSome}
 use Rattle.mp_run.specs.declared.status.Status.{Status}
 use Rattle.mp_run.specs.Answers.{Answer}
@@ -14,6 +14,10 @@ AreTold files command = IsSome (files command.theory) × IsSome (files command.s
 abbrev pub OneAnswer : Type 0
 OneAnswer = (files : List ℕ → Option (List ℕ)) (command : Command) → AreTold files command
     → (one other : Answer) → Answers files command one → Answers files command other → one ≡ other
+
+-- a command has an answer where its files are told
+abbrev pub SomeAnswer : Type 0
+SomeAnswer = (files : List ℕ → Option (List ℕ)) (command : Command) → AreTold files command → (answer : Answer) × Answers files command answer
 
 -- two runs of a command over the same files, which are told, that each wrote a whole answer ended under the same status
 -- and wrote the same bytes, whatever their shelves counted

@@ -1,6 +1,6 @@
-ghost use Rattle.mp_run.specs.Laws.{OneAnswer, OneOutput};
+ghost use Rattle.mp_run.specs.Laws.{OneAnswer, OneOutput, SomeAnswer};
 
-use mp_drill::{one_schedule_text, one_trace};
+use mp_drill::{one_schedule_text, one_trace, some_trace};
 use mp_scripttext::one_text as one_script_text;
 use mp_term::Sequent;
 use mp_theorytext::one_text as one_theory_text;
@@ -15,4 +15,12 @@ pub fn one_answer()
     one_script_text();
     one_schedule_text();
     one_trace::<Sequent>();
+}
+
+/// Over files whose bytes are told a command has an answer: each text has a value or a fault, and each schedule has a
+/// trace, so nothing that a file says is left open.
+pub fn some_answer()
+    ensures { SomeAnswer }
+{
+    some_trace::<Sequent>();
 }

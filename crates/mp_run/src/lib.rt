@@ -14,7 +14,7 @@ mod stop;
 mod telling;
 mod waiting;
 
-pub use laws::one_answer;
+pub use laws::{one_answer, some_answer};
 pub use run::run_here;
 pub use status::Status;
 
