@@ -1,5 +1,5 @@
 -- A command has an answer.
-use Rattle.std.proofs.Common.{◌≡◌, ◌⊎◌, inl, inr, ℕ, ◌<◌, ◌≤◌, List, [], map, length, Option, Some, None, Result, Ok, Err, IfSome, IsSome, refl}
+use Rattle.std.proofs.Common.{◌≡◌, ◌⊎◌, inl, inr, ℕ, ◌<◌, ◌≤◌, List, [], map, length, Option, Some, None, Ok, Err, IfSome, IsSome, refl}
 use Rattle.std.proofs.lemmas.Bool.{cases_lt}
 use Rattle.mp_lex.specs.declared.token.Token.{Token}
 use Rattle.mp_lex.specs.Lex.{Reading as Lexing, lex}
@@ -9,7 +9,7 @@ use Rattle.mp_termtext.specs.declared.fail.TextErr.{TextErr}
 use Rattle.mp_termtext.specs.declared.fail.TextFail.TheVariants.{Bad}
 use Rattle.mp_termtext.specs.declared.fail.TextWhy.TheVariants as why
 use Rattle.mp_termtext.specs.Faults.{least}
-use Rattle.mp_termtext.specs.Texts.{words_in, names_in, of_lexical, error_at, IsText, IsFaulty, bad_token, stuck, broken, ReadsText}
+use Rattle.mp_termtext.specs.Texts.{words_in, names_in, of_lexical, error_at, bad_token, stuck, broken, ReadsText}
 use Rattle.mp_termtext.proofs.Answering.{none_least}
 use Rattle.mp_theory.specs.declared.rule.Rule.{Rule}
 use Rattle.mp_theorytext.specs.Grammar.{IsTheory, StuckTheory}

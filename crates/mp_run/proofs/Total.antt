@@ -1,5 +1,5 @@
 -- A part of a grammar is read at the front of each list of words, or is stuck there.
-use Rattle.std.proofs.Common.{◌≡◌, ◌⊎◌, inl, inr, ℕ, suc, zero, ◌+◌, ◌<◌, ◌≤◌, Bool, true, false, List, [], ◌∷◌, length, Option, None, Some, slice_get, refl, sym, ap, subst, ◌∙◌, arith}
+use Rattle.std.proofs.Common.{◌≡◌, ◌⊎◌, inl, inr, ℕ, suc, zero, ◌+◌, ◌<◌, ◌≤◌, List, [], ◌∷◌, length, None, Some, slice_get, refl, sym, ap, ◌∙◌, arith}
 use Rattle.std.proofs.lemmas.Bool.{cases_eq}
 use Rattle.mp_logic.specs.declared.sym.Sym.{Sym}
 use Rattle.mp_termtext.specs.declared.word.Mark.{Mark}
@@ -8,7 +8,7 @@ use Rattle.mp_termtext.specs.declared.word.Keyword.{Keyword}
 use Rattle.mp_termtext.specs.declared.word.Keyword.TheVariants as keyword
 use Rattle.mp_termtext.specs.declared.word.Word.{Word}
 use Rattle.mp_termtext.specs.declared.word.Word.TheVariants as word
-use Rattle.mp_termtext.specs.Parts.{Part, Sign, Stop, No, None_of, More, IsMark, IsWord, IsName, IsCap, IsCapVar, IsNumber, IsNameAt, IsCapAt, IsNumberAt, Lacks, Both, StuckBoth, After, StuckAfter, Optional, StuckOptional, Ended, StuckEnded, Led, IfThere, Many, StuckMany, no_more, one_more, in_one, in_others, Repeated, StuckRepeated, no_further, one_further, in_first, in_further, Separated, StuckSeparated, last, more, here, behind, after, Listed, StuckListed}
+use Rattle.mp_termtext.specs.Parts.{Part, Sign, Stop, No, None_of, IsMark, IsWord, IsName, IsCap, IsCapVar, IsNumber, IsNameAt, IsCapAt, IsNumberAt, Lacks}
 
 -- at these words the sign stands, or it doesn't
 abbrev pub Stands : Sign → List Word → Type 0

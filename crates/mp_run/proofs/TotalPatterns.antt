@@ -1,5 +1,5 @@
 -- The words of a theory are read to their end, or a reading of them is stuck.
-use Rattle.std.proofs.Common.{◌≡◌, ◌⊎◌, inl, inr, ℕ, ◌+◌, ◌<◌, ◌≤◌, List, [], ◌∷◌, length, refl, arith}
+use Rattle.std.proofs.Common.{inl, inr, ◌+◌, ◌<◌, ◌≤◌, List, [], ◌∷◌, length, refl, arith}
 use Rattle.mp_logic.specs.declared.sym.Sym.{Sym}
 use Rattle.mp_schema.specs.declared.pattern.ParamPat.{ParamPat}
 use Rattle.mp_schema.specs.declared.pattern.ParamPat.TheVariants.{Lit, Hole}
@@ -49,7 +49,7 @@ total_param_pats : Total 0 AreParamPats StuckParamPats
 total_param_pats ts =
     optional_at (IsMark mark.OpenBracket) SomeParamPats StuckSomeParamPats ts [] (mark_stands mark.OpenBracket ts)
     (λ us s. of_any_length SomeParamPats StuckSomeParamPats us
-      (total_separated IsParamPat StuckParamPat total_param_pat (IsMark mark.Semicolon) (IsMark mark.CloseBracket) (mark_stands mark.Semicolon) (mark_stands mark.CloseBracket) us))
+    (total_separated IsParamPat StuckParamPat total_param_pat (IsMark mark.Semicolon) (IsMark mark.CloseBracket) (mark_stands mark.Semicolon) (mark_stands mark.CloseBracket) us))
 
 abbrev SomeContexts : List RawName → List Word → List Word → Type 0
 SomeContexts = Separated IsCapAt (IsMark mark.Semicolon) (IsMark mark.Greater)
@@ -61,7 +61,7 @@ total_contexts : Total 0 AreContexts StuckContexts
 total_contexts ts =
     optional_at (IsMark mark.Less) SomeContexts StuckSomeContexts ts [] (mark_stands mark.Less ts)
     (λ us s. of_any_length SomeContexts StuckSomeContexts us
-      (total_separated IsCapAt (Lacks IsCapAt) total_cap_at (IsMark mark.Semicolon) (IsMark mark.Greater) (mark_stands mark.Semicolon) (mark_stands mark.Greater) us))
+    (total_separated IsCapAt (Lacks IsCapAt) total_cap_at (IsMark mark.Semicolon) (IsMark mark.Greater) (mark_stands mark.Semicolon) (mark_stands mark.Greater) us))
 
 -- ## Patterns
 
@@ -187,7 +187,7 @@ total_hypothesis : Total 1 IsHypothesis StuckHypothesis
 total_hypothesis ts =
     both_at IsName (After (IsMark mark.Colon) IsPattern) (Lacks IsName) (StuckAfter (IsMark mark.Colon) StuckPattern) 1 ts (total_name ts)
     (λ us s. of_any_length (After (IsMark mark.Colon) IsPattern) (StuckAfter (IsMark mark.Colon) StuckPattern) us
-      (after_at (IsMark mark.Colon) IsPattern StuckPattern us (mark_stands mark.Colon us) (λ vs t. pattern_there vs)))
+    (after_at (IsMark mark.Colon) IsPattern StuckPattern us (mark_stands mark.Colon us) (λ vs t. pattern_there vs)))
 
 context_item : (ts us : List Word) → IsMark mark.Less ts us → 1 + length us ≤ length ts → Decides 1 IsContext StuckContext us → Decides 1 IsItem StuckItem ts
 context_item ts us k s (inl c) = inl (item.Ctx c.0.0 c.0.1.0 c.0.1.1 (length ts), c.1, ((us, k, c.2), refl), omega (arith, s, c.3))
@@ -237,7 +237,7 @@ total_rule ts =
     read_as RuleParts IsRule StuckRule StuckRule 1 ts (λ x. record { name = x.0; premises = x.1.0; concl = x.1.1 }) (λ x us h. h) (λ us h. h)
     (both_at IsRuleName (After (IsMark mark.Colon) Schemas) StuckRuleName (StuckAfter (IsMark mark.Colon) StuckSchemas) 1 ts (total_rule_name ts)
     (λ us s. of_any_length (After (IsMark mark.Colon) Schemas) (StuckAfter (IsMark mark.Colon) StuckSchemas) us
-      (after_at (IsMark mark.Colon) Schemas StuckSchemas us (mark_stands mark.Colon us) (λ vs t. of_any_length Schemas StuckSchemas vs (total_schemas vs)))))
+    (after_at (IsMark mark.Colon) Schemas StuckSchemas us (mark_stands mark.Colon us) (λ vs t. of_any_length Schemas StuckSchemas vs (total_schemas vs)))))
 
 pub some_theory : SomeReading IsTheory StuckTheory
 some_theory ts = some_many IsRule StuckRule total_rule ts

@@ -1,5 +1,5 @@
 -- The words of a schedule are read to their end, or a reading of them is stuck.
-use Rattle.std.proofs.Common.{◌≡◌, ◌⊎◌, inl, inr, ℕ, ◌+◌, ◌<◌, ◌≤◌, Bool, true, false, List, [], ◌∷◌, length, Option, Some, None, refl, arith}
+use Rattle.std.proofs.Common.{◌≡◌, inl, inr, ◌+◌, ◌≤◌, true, List, [], ◌∷◌, length, Some, None, refl, arith}
 use Rattle.mp_logic.specs.declared.sym.Sym.{Sym}
 use Rattle.mp_termtext.specs.declared.word.Word.{Word}
 use Rattle.mp_termtext.specs.declared.word.Word.TheVariants as word

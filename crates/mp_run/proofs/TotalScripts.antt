@@ -1,5 +1,5 @@
 -- The words of a script are read to their end, or a reading of them is stuck.
-use Rattle.std.proofs.Common.{◌≡◌, ◌⊎◌, inl, inr, ℕ, ◌+◌, ◌<◌, ◌≤◌, List, [], ◌∷◌, length, Option, refl, arith}
+use Rattle.std.proofs.Common.{inl, inr, ℕ, ◌+◌, ◌<◌, ◌≤◌, List, [], ◌∷◌, length, Option, refl, arith}
 use Rattle.mp_termtext.specs.declared.word.Word.{Word}
 use Rattle.mp_termtext.specs.declared.word.Mark.TheVariants as mark
 use Rattle.mp_termtext.specs.declared.word.Keyword.TheVariants as keyword
@@ -7,10 +7,9 @@ use Rattle.mp_termtext.specs.declared.raw.RawBound.{RawBound}
 use Rattle.mp_termtext.specs.declared.raw.RawName.{RawName}
 use Rattle.mp_termtext.specs.declared.raw.RawNumber.{RawNumber}
 use Rattle.mp_termtext.specs.declared.raw.RawSequent.{RawSequent}
-use Rattle.mp_termtext.specs.Parts.{No, Lacks, IsMark, IsWord, IsNameAt, IsCapAt, IsNumberAt, Both, StuckBoth, After, StuckAfter, Separated, StuckSeparated}
+use Rattle.mp_termtext.specs.Parts.{Lacks, IsMark, IsWord, IsNameAt, IsCapAt, IsNumberAt, Both, StuckBoth, After, StuckAfter, Separated, StuckSeparated}
 use Rattle.mp_termtext.specs.Grammar.{IsBound, StuckBound, IsSequent, StuckSequent}
 use Rattle.mp_scripttext.specs.declared.raw.RawGiven.{RawGiven}
-use Rattle.mp_scripttext.specs.declared.raw.RawStep.{RawStep}
 use Rattle.mp_scripttext.specs.declared.raw.RawStrategy.{RawStrategy, Id, Step, Chain}
 use Rattle.mp_scripttext.specs.Grammar.{IsGivenTerm, IsGiven, StuckGiven, AreSomeGiven, StuckSomeGiven, AreGiven, StuckAllGiven, IsPlace, StuckPlace, IsStep, StuckStep, IsStrategy, IsChain, StuckStrategy, StuckChain, id, step, chain, last, more, no_strategy, in_step, in_chain, behind_chain, in_strategy, in_others, IsWhole, IsFuel, StuckFuel, IsGoalName, StuckGoalName, IsEntry, StuckEntry, IsScript, StuckScript}
 use Rattle.mp_run.proofs.Total.{Stands, Decides, Total, SomeReading, by_length, mark_stands, word_stands, total_name_at, total_cap_at, total_number_at}
@@ -37,7 +36,7 @@ total_given ts =
     read_as GivenParts IsGiven StuckGiven StuckGiven 1 ts (λ x. record { name = x.0; term = x.1.0; left = x.1.1 }) (λ x us h. h) (λ us h. h)
     (both_at IsCapAt (After (IsMark mark.Becomes) IsGivenTerm) (Lacks IsCapAt) (StuckAfter (IsMark mark.Becomes) StuckBound) 1 ts (total_cap_at ts)
     (λ us s. of_any_length (After (IsMark mark.Becomes) IsGivenTerm) (StuckAfter (IsMark mark.Becomes) StuckBound) us
-      (after_at (IsMark mark.Becomes) IsGivenTerm StuckBound us (mark_stands mark.Becomes us) (λ vs t. given_term_there vs))))
+    (after_at (IsMark mark.Becomes) IsGivenTerm StuckBound us (mark_stands mark.Becomes us) (λ vs t. given_term_there vs))))
 
 abbrev GivenList : List RawGiven → List Word → List Word → Type 0
 GivenList = Separated IsGiven (IsMark mark.Semicolon) (IsMark mark.CloseBracket)
@@ -155,7 +154,7 @@ fuelled_there : Total 0 Fuelled StuckFuelled
 fuelled_there ts =
     both_at IsFuel (After (IsMark mark.Colon) Proved) StuckFuel (StuckAfter (IsMark mark.Colon) StuckProved) 0 ts (total_fuel ts)
     (λ us s. of_any_length (After (IsMark mark.Colon) Proved) (StuckAfter (IsMark mark.Colon) StuckProved) us
-      (after_at (IsMark mark.Colon) Proved StuckProved us (mark_stands mark.Colon us) (λ vs t. proved_there vs)))
+    (after_at (IsMark mark.Colon) Proved StuckProved us (mark_stands mark.Colon us) (λ vs t. proved_there vs)))
 
 abbrev EntryParts : RawName × (Option RawNumber × (RawSequent × (List RawStrategy × ℕ))) → List Word → List Word → Type 0
 EntryParts = Both IsGoalName Fuelled

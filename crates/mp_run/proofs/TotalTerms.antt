@@ -1,7 +1,6 @@
 -- Each list of words begins with a term or a sequent, or a reading of one is stuck in it.
-use Rattle.std.proofs.Common.{◌≡◌, ◌⊎◌, inl, inr, ℕ, ℤ, ◌+◌, ◌<◌, ◌≤◌, Bool, true, false, List, [], ◌∷◌, length, Option, refl, arith}
+use Rattle.std.proofs.Common.{◌≡◌, inl, inr, ℤ, ◌+◌, ◌<◌, ◌≤◌, Bool, true, false, List, [], ◌∷◌, length, refl, arith}
 use Rattle.mp_logic.specs.declared.sym.Sym.{Sym}
-use Rattle.mp_term.specs.declared.term.Param.{Param}
 use Rattle.mp_term.specs.declared.term.Param.TheVariants as param
 use Rattle.mp_termtext.specs.declared.word.Word.{Word}
 use Rattle.mp_termtext.specs.declared.word.Word.TheVariants as word
@@ -11,8 +10,7 @@ use Rattle.mp_termtext.specs.declared.raw.RawParam.{RawParam}
 use Rattle.mp_termtext.specs.declared.raw.RawBound.{RawBound}
 use Rattle.mp_termtext.specs.declared.raw.RawTerm.{RawTerm, Var, Op}
 use Rattle.mp_termtext.specs.declared.raw.RawHyp.{RawHyp}
-use Rattle.mp_termtext.specs.declared.raw.RawSequent.{RawSequent}
-use Rattle.mp_termtext.specs.Parts.{No, None_of, Lacks, IsMark, IsName, Both, StuckBoth, After, StuckAfter, Separated, StuckSeparated}
+use Rattle.mp_termtext.specs.Parts.{None_of, Lacks, IsMark, IsName, Both, After, StuckAfter, Separated, StuckSeparated}
 use Rattle.mp_termtext.specs.Grammar.{IsVariable, IsParamWord, IsParam, AreParams, StuckParams, IsBinder, begins_binders, AreSomeBinders, AreBinders, StuckBinders, IsTerm, AreSubs, AreBounds, IsBound, StuckTerm, StuckSubs, StuckBounds, StuckBound, variable, operator, no_subs, some_subs, last_bound, more_bounds, bound, no_name, in_params, in_subs, in_braces, in_bound, behind_bound, in_other_bounds, in_binders, in_body, IsHyp, StuckHyp, AreHyps, StuckHyps, IsSequent, StuckSequent}
 use Rattle.mp_run.proofs.Total.{Stands, Found, Decides, Total, by_length, fewer, mark_stands, name_found, lacks_at, total_name}
 use Rattle.mp_run.proofs.TotalParts.{of_any_length, read_as, both_at, after_at, optional_at, total_separated, total_listed}
@@ -52,7 +50,7 @@ total_params ts =
     optional_at (IsMark mark.OpenBracket) (Separated IsParam (IsMark mark.Semicolon) (IsMark mark.CloseBracket)) (StuckSeparated IsParam (Lacks IsParam) (IsMark mark.Semicolon) (IsMark mark.CloseBracket)) ts []
     (mark_stands mark.OpenBracket ts)
     (λ us s. of_any_length (Separated IsParam (IsMark mark.Semicolon) (IsMark mark.CloseBracket)) (StuckSeparated IsParam (Lacks IsParam) (IsMark mark.Semicolon) (IsMark mark.CloseBracket)) us
-      (total_separated IsParam (Lacks IsParam) (λ vs. lacks_at IsParam vs (param_placed vs (param_word_found vs))) (IsMark mark.Semicolon) (IsMark mark.CloseBracket) (mark_stands mark.Semicolon) (mark_stands mark.CloseBracket) us))
+    (total_separated IsParam (Lacks IsParam) (λ vs. lacks_at IsParam vs (param_placed vs (param_word_found vs))) (IsMark mark.Semicolon) (IsMark mark.CloseBracket) (mark_stands mark.Semicolon) (mark_stands mark.CloseBracket) us))
 
 binder_placed : (ts : List Word) → Found IsName ts → Found IsBinder ts
 binder_placed ts (inl h) = inl (record { name = h.0; left = length ts }, h.1, (h.2, refl), h.3)
@@ -148,8 +146,8 @@ total_hyp : Total 1 IsHyp StuckHyp
 total_hyp ts =
     read_as HypParts IsHyp StuckHyp StuckHyp 1 ts (λ x. record { name = x.0; term = x.1; left = length ts }) (λ x us h. (h, refl)) (λ us h. h)
     (both_at IsName (After (IsMark mark.Colon) IsTerm) (Lacks IsName) (StuckAfter (IsMark mark.Colon) StuckTerm) 1 ts (total_name ts) (λ us s.
-      of_any_length (After (IsMark mark.Colon) IsTerm) (StuckAfter (IsMark mark.Colon) StuckTerm) us
-      (after_at (IsMark mark.Colon) IsTerm StuckTerm us (mark_stands mark.Colon us) (λ vs t. of_any_length IsTerm StuckTerm vs (total_term vs)))))
+    of_any_length (After (IsMark mark.Colon) IsTerm) (StuckAfter (IsMark mark.Colon) StuckTerm) us
+    (after_at (IsMark mark.Colon) IsTerm StuckTerm us (mark_stands mark.Colon us) (λ vs t. of_any_length IsTerm StuckTerm vs (total_term vs)))))
 
 total_hyps : Total 1 AreHyps StuckHyps
 total_hyps ts = total_listed IsHyp StuckHyp total_hyp (IsMark mark.Semicolon) (IsMark mark.Turnstile) (mark_stands mark.Semicolon) (mark_stands mark.Turnstile) ts

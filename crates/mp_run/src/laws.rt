@@ -17,8 +17,8 @@ pub fn one_answer()
     one_trace::<Sequent>();
 }
 
-/// Over files whose bytes are told a command has an answer: each text has a value or a fault, and each schedule has a
-/// trace, so nothing that a file says is left open.
+/// Over files whose bytes are told a command has an answer: each text has a value or a fault, and each schedule of a
+/// goal has a trace.
 pub fn some_answer()
     ensures { SomeAnswer }
 {
