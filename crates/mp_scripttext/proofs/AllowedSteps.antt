@@ -1,7 +1,7 @@
 -- A step without static faults has a justification that the theory allows.
-use Rattle.std.proofs.Common.{◌≡◌, ℕ, ◌+◌, ◌≤◌, ◌++◌, List, [], ◌∷◌, map, length, Bool, true, false, not, ◌&&◌, nat_eq, nat_lt, nat_le, Option, None, Some, refl, ap, sym, subst, ◌∙◌, arith}
+use Rattle.std.proofs.Common.{◌≡◌, ℕ, ◌+◌, ◌≤◌, ◌++◌, List, [], ◌∷◌, map, length, Bool, true, false, not, nat_eq, nat_lt, nat_le, Option, None, Some, refl, ap, sym, subst, ◌∙◌, arith}
 use Rattle.std.specs.Prelude.{if◌then◌else◌, is_some, slice_get, unwrap_or}
-use Rattle.std.specs.List.{list_all, flat_map}
+use Rattle.std.specs.List.{flat_map}
 use Rattle.std.proofs.lemmas.Bool.{and_from}
 use Rattle.std.proofs.lemmas.Bool.Decides.{nat_tests}
 use Rattle.std.proofs.lemmas.List.{length-map}
@@ -15,13 +15,12 @@ use Rattle.mp_theory.specs.declared.rule.Rule.{Rule}
 use Rattle.mp_theory.specs.declared.just.Given.{Given}
 use Rattle.mp_theory.specs.declared.just.Just.TheVariants as just
 use Rattle.mp_theory.specs.Allowed.{are_for, is_allowed, is_allowed_at, is_for, same_bool}
-use Rattle.mp_theory.specs.Needs.{needs_of}
 use Rattle.mp_theory.specs.Tables.{IsRule, place_of}
 use Rattle.mp_termtext.specs.declared.raw.Binder.{Binder}
 use Rattle.mp_termtext.specs.declared.raw.RawNumber.{RawNumber}
 use Rattle.mp_termtext.specs.declared.fail.TextWhy.TheVariants as why
 use Rattle.mp_termtext.specs.Faults.{fault_if}
-use Rattle.mp_termtext.specs.Statics.{bound_faults_of, faults_of, names_of, raw_size_of}
+use Rattle.mp_termtext.specs.Statics.{bound_faults_of, names_of, raw_size_of}
 use Rattle.mp_termtext.specs.Values.{IsFaultlessBound, bound_value_of, value_of}
 use Rattle.mp_termtext.proofs.RawLayers.{bound_value-is}
 use Rattle.mp_termtext.proofs.Faultless.{nil_parts, no_fault}

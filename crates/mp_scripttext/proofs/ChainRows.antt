@@ -1,12 +1,12 @@
 -- The rows of a chain: those of each `then` are written from the last one to the first.
-use Rattle.std.proofs.Common.{◌≡◌, ℕ, zero, suc, ◌+◌, ◌-◌, ◌<◌, ◌≤◌, ◌++◌, List, [], ◌∷◌, map, length, length-append, append-nil, take, set, replicate, get_or, refl, sym, ap, subst, ◌∙◌, append_assoc, add-one, arith}
-use Rattle.std.proofs.lemmas.List.{length-map, length-replicate, length-set, map-append, replicate_more, take_all, take_more}
+use Rattle.std.proofs.Common.{◌≡◌, ℕ, zero, suc, ◌+◌, ◌-◌, ◌<◌, ◌≤◌, ◌++◌, List, [], ◌∷◌, map, length, length-append, take, set, replicate, get_or, refl, sym, ap, ◌∙◌, append_assoc, add-one, arith}
+use Rattle.std.proofs.lemmas.List.{length-map, length-replicate, length-set, map-append, replicate_more, take_more}
 use Rattle.std.proofs.Math.Seq.{set-append_seam}
 use Rattle.mp_strategy.specs.declared.tactic.Tac.{Tac}
 use Rattle.mp_strategy.specs.declared.tactic.Tac.TheVariants as tac
 use Rattle.mp_scripttext.specs.declared.raw.RawStrategy.{RawStrategy}
 use Rattle.mp_scripttext.specs.Strategies.{Strategy, strategy_of, then_all, then_of, then_row, whole_of}
-use Rattle.mp_scripttext.proofs.Tables.{IsTable, strategy_table, whole_table}
+use Rattle.mp_scripttext.proofs.Tables.{whole_table}
 
 -- ## One strategy more
 

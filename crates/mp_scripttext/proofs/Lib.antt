@@ -1,18 +1,18 @@
-pub mod AllowedSteps
+mod AllowedSteps
 mod Behind
-pub mod ChainRows
-pub mod DistinctNeeds
+mod ChainRows
+mod DistinctNeeds
 mod EntryWalks
 mod FaultWalks
 pub mod Found
-pub mod GoodEntries
-pub mod GoodSequents
-pub mod GoodTerms
+mod GoodEntries
+mod GoodSequents
+mod GoodTerms
 pub mod OneScript
-pub mod RawTermInduction
+mod RawTermInduction
 mod Shapes
-pub mod StepLists
+mod StepLists
 mod StepWalks
-pub mod StrategyInduction
-pub mod StrategyLayers
-pub mod Tables
+mod StrategyInduction
+mod StrategyLayers
+mod Tables

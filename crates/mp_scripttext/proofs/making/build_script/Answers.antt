@@ -1,8 +1,7 @@
-use Rattle.std.proofs.Common.{◌≡◌, ◌++◌, ◌∷◌, [], ap, sym, subst, ◌∙◌, arith}
+use Rattle.std.proofs.Common.{[], ap, sym, subst, ◌∙◌, arith}
 use Rattle.std.proofs.lemmas.Grind.{common_steps}
 use Rattle.mp_scripttext.specs.Entries.{EachGood}
 use Rattle.mp_scripttext.specs.Statics.{script_faults}
-use Rattle.mp_scripttext.specs.Values.{entry_of}
 use Rattle.mp_scripttext.proofs.GoodEntries.{entry_at, good_more}
 use Rattle.mp_scripttext.proofs.making.build_script.Goals as goal
 

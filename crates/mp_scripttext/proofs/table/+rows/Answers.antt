@@ -1,8 +1,8 @@
-use Rattle.std.proofs.Common.{◌≡◌, ◌≤◌, ◌<◌, ◌+◌, ◌-◌, ℕ, List, length, get_or, refl, ap, sym, arith}
+use Rattle.std.proofs.Common.{◌≡◌, ◌+◌, ◌-◌, length, get_or, ap, sym, arith}
 use Rattle.std.proofs.lemmas.List.{length-set}
 use Rattle.mp_scripttext.specs.Strategies.{then_row}
 use Rattle.mp_scripttext.proofs.StrategyLayers.{no_greater}
-use Rattle.mp_scripttext.proofs.ChainRows.{IsNext, first_room, hole_some, hole_within, next_filled, next_in, next_room, step_room}
+use Rattle.mp_scripttext.proofs.ChainRows.{first_room, hole_some, hole_within, next_filled, next_in, next_room, step_room}
 use Rattle.mp_scripttext.proofs.table.+rows.Goals as goal
 
 pub push_chain-push_strategy-requires : goal.push_chain-push_strategy-requires
