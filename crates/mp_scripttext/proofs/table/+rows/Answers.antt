@@ -22,11 +22,10 @@ push_chain-push_strategy-requires-in-loop-raw t c =
     let raw = c.raw-item.result in
     let at = next_in raws c.in-Some.more.now c.in-Some.first.now raw c.loop-raw.raw-index c.in-Some.ensures.cases.0 c.loop-raw-test.true c.raw-item.is in
     let m = no_greater raws (c.loop-raw.raw-index + 1) raw at.0 at.1 in
-    let size = length-set c.loop-raw.tacs (c.loop-raw.hole - 1) (then_row (c.loop-raw.hole - 1 + 1) c.len-second.result) in
     let q = next_room at c.loop-raw.invariant in
     let s = step_room at c.loop-raw.invariant c.requires.step in
     let r = c.requires.room in
-    (omega (arith, m, c.decreases), (omega (arith, size, q, r), omega (arith, size, s)))
+    (omega (arith, m, c.decreases), (grind (arith, length-set, q, r), grind (arith, length-set, s)))
 
 pub push_chain-overflow_cast-second : goal.push_chain-overflow_cast-second
 push_chain-overflow_cast-second t c =
