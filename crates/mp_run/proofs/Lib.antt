@@ -1,4 +1,5 @@
 pub mod Files
+pub mod FirstEntry
 pub mod GoalBlocks
 pub mod FileOrder
 pub mod PutBlocks

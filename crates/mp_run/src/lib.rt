@@ -19,4 +19,8 @@ pub use run::run_here;
 pub use status::Status;
 
 #[cfg(test)]
+mod samples;
+#[cfg(test)]
+mod step_tests;
+#[cfg(test)]
 mod tests;

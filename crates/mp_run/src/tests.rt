@@ -1,28 +1,9 @@
+use crate::samples::{DOUBLING, THEORY, around};
 use crate::{Status, run_here};
 use mp_logic::{List, Text};
 use mp_ports::{MemShelf, MemSink};
 use std::alloc::Global;
 use std::test::Fail;
-
-/// First-order logic.
-const THEORY: &str = "rule true_i : ==> <H> >- true\n\
-    rule hyp : ==> <H>; x: 'A<H>; <J<H>['x]> >- 'A<H>\n\
-    rule cut : <H> >- 'A<H>, <H>; x: 'A<H> >- 'C<H> ==> <H> >- 'C<H>\n\
-    rule and_i : <H> >- 'A<H>, <H> >- 'B<H> ==> <H> >- and{'A<H>; 'B<H>}\n\
-    rule and_e : <H>; x: 'A<H>; y: 'B<H>; <J<H>> >- 'C<H;J>\n\
-    \x20\x20==> <H>; z: and{'A<H>; 'B<H>}; <J<H>> >- 'C<H;J>\n\
-    rule or_l : <H> >- 'A<H> ==> <H> >- or{'A<H>; 'B<H>}\n\
-    rule or_r : <H> >- 'B<H> ==> <H> >- or{'A<H>; 'B<H>}\n\
-    rule or_e : <H>; x: 'A<H>; <J<H>> >- 'C<H;J>, <H>; x: 'B<H>; <J<H>> >- 'C<H;J>\n\
-    \x20\x20==> <H>; z: or{'A<H>; 'B<H>}; <J<H>> >- 'C<H;J>\n\
-    rule imp_i : <H>; x: 'A<H> >- 'B<H> ==> <H> >- imp{'A<H>; 'B<H>}\n\
-    rule imp_e : <H>; z: imp{'A<H>; 'B<H>}; <J<H>> >- 'A<H>,\n\
-    \x20\x20<H>; z: imp{'A<H>; 'B<H>}; <J<H>>; y: 'B<H> >- 'C<H;J>\n\
-    \x20\x20==> <H>; z: imp{'A<H>; 'B<H>}; <J<H>> >- 'C<H;J>\n\
-    rule all_i : <H>; x: 'A<H> >- 'B<H>['x] ==> <H> >- all{'A<H>; y. 'B<H>['y]}\n\
-    rule all_e : <H>; z: all{'A<H>; y. 'B<H>['y]}; <J<H>>; w: 'B<H>['T<H;J>] >- 'C<H;J>\n\
-    \x20\x20==> <H>; z: all{'A<H>; y. 'B<H>['y]}; <J<H>> >- 'C<H;J>\n\
-    rule eq_refl : ==> <H> >- eq{'A<H>; 'A<H>}\n";
 
 const SCRIPT: &str = "goal g fuel 5 : >- and{true; true} by rule and_i then rule true_i";
 
@@ -454,21 +435,6 @@ fn of_two_faults_the_sooner_one_is_told(rt: HostRuntime) -> Result<(), Fail> {
     Ok(())
 }
 
-/// `before`, so many times `part`, and `after`.
-fn around(
-    alloc: Global,
-    before: &str,
-    part: &str,
-    times: usize,
-    after: &str,
-) -> Result<String, Fail> {
-    let mut made = String::new(alloc);
-    made.push_str(before)?;
-    made.push_str(part.repeat(alloc, times)?.as_str())?;
-    made.push_str(after)?;
-    Ok(made)
-}
-
 #[test]
 fn a_script_beyond_a_limit_is_refused(rt: HostRuntime) -> Result<(), Fail> {
     let alloc = rt.alloc();
@@ -587,96 +553,28 @@ fn needs_are_given_in_any_order_and_behind_binders(rt: HostRuntime) -> Result<()
     Ok(())
 }
 
-/// Two rules that make a goal of `2 * n + 2` and one of `2 * n + 3` nodes of one of `n + 1`.
-const DOUBLING: &str = "rule dbl : <H> >- p{'A<H>; 'A<H>; z} ==> <H> >- g{'A<H>}\n\
-    rule more : <H> >- p{'A<H>; 'A<H>; z; z} ==> <H> >- g{'A<H>}\n";
-
-#[test]
-fn a_subgoal_has_at_most_20000_nodes(rt: HostRuntime) -> Result<(), Fail> {
-    let alloc = rt.alloc();
-    let term = around(alloc, "w{z", "; z", 9997, "}")?;
-    let small = around(alloc, ">- g{", term.as_str(), 1, "}")?;
-    let double = around(
-        alloc,
-        ">- p{",
-        around(
-            alloc,
-            "",
-            around(alloc, term.as_str(), "; ", 1, "")?.as_str(),
-            2,
-            "",
-        )?
-        .as_str(),
-        1,
-        "z}",
-    )?;
-    let script = around(alloc, "goal g : ", small.as_str(), 1, " by rule dbl")?;
-    let first = around(
-        alloc,
-        "goal g: 1 open\nrule dbl | ",
-        small.as_str(),
-        1,
-        "\n  open | ",
-    )?;
-    let out = around(alloc, first.as_str(), double.as_str(), 1, "\n")?;
-    assert!(rt;
-        runs(
-            alloc,
-            SEQ,
-            [DOUBLING, script.as_str(), ""],
-            (Status::NotAll, out.as_str())
-        )?
-    );
-    let script = around(alloc, "goal g : ", small.as_str(), 1, " by rule more")?;
-    let out = around(
-        alloc,
-        "goal g: failed TooLarge at strategy 1 | ",
-        small.as_str(),
-        1,
-        "\n",
-    )?;
-    assert!(rt;
-        runs(
-            alloc,
-            SEQ,
-            [DOUBLING, script.as_str(), ""],
-            (Status::NotAll, out.as_str())
-        )?
-    );
-    Ok(())
-}
-
 #[test]
 fn goals_have_hypotheses_binders_and_given_terms(rt: HostRuntime) -> Result<(), Fail> {
-    for (script, status, out) in [
+    for (script, out) in [
         (
             "goal g fuel 0 : >- true by id",
-            Status::NotAll,
             "goal g: 1 open\nopen | >- true\n",
         ),
         (
             "goal g : a: nat; b: nat >- all{nat; x. p{'x}} by rule all_i",
-            Status::NotAll,
             "goal g: 1 open\nrule all_i | x1: nat; x2: nat >- all{nat; x3. p{'x3}}\n  open | x1: nat; x2: nat; x3: nat >- p{'x3}\n",
         ),
         (
-            "goal g : a: nat; b: p{'a}; c: q{'b} >- p{'a} by rule hyp at 2",
-            Status::AllClosed,
-            "goal g: closed\nrule hyp at 2 | x1: nat; x2: p{'x1}; x3: q{'x2} >- p{'x1}\n",
-        ),
-        (
             "goal g : a: nat; b: p{'a}; c: q{'b} >- p{'a} by rule hyp at 4",
-            Status::NotAll,
             "goal g: failed NoMatch at strategy 1 | x1: nat; x2: p{'x1}; x3: q{'x2} >- p{'x1}\n",
         ),
         (
             "goal g : a: nat >- true by rule cut with [A := p{'x2}]",
-            Status::NotAll,
             "goal g: failed BadArgument at strategy 1 | x1: nat >- true\n",
         ),
     ] {
         assert!(rt;
-            runs(rt.alloc(), SEQ, [THEORY, script, ""], (status, out))?,
+            runs(rt.alloc(), SEQ, [THEORY, script, ""], (Status::NotAll, out))?,
             "{script}"
         );
     }
@@ -684,124 +582,14 @@ fn goals_have_hypotheses_binders_and_given_terms(rt: HostRuntime) -> Result<(), 
 }
 
 #[test]
-fn each_rule_fits_one_goal_and_not_another(rt: HostRuntime) -> Result<(), Fail> {
-    for (script, out) in [
-        (
-            "goal true_i : a: p >- true by rule true_i",
-            "goal true_i: closed\nrule true_i | x1: p >- true\n",
-        ),
-        (
-            "goal true_i_not : >- p by rule true_i",
-            "goal true_i_not: failed NoMatch at strategy 1 | >- p\n",
-        ),
-        (
-            "goal hyp : a: p; b: q >- p by rule hyp at 1",
-            "goal hyp: closed\nrule hyp at 1 | x1: p; x2: q >- p\n",
-        ),
-        (
-            "goal hyp_not : a: p; b: q >- p by rule hyp at 2",
-            "goal hyp_not: failed NoMatch at strategy 1 | x1: p; x2: q >- p\n",
-        ),
-        (
-            "goal cut : >- p by rule cut with [A := q]",
-            "goal cut: 2 open\nrule cut with [A := q] | >- p\n  open | >- q\n  open | x1: q >- p\n",
-        ),
-        (
-            "goal cut_not : a: p >- p by rule cut with [A := q{'x2}]",
-            "goal cut_not: failed BadArgument at strategy 1 | x1: p >- p\n",
-        ),
-        (
-            "goal and_i : >- and{p; q} by rule and_i",
-            "goal and_i: 2 open\nrule and_i | >- and{p; q}\n  open | >- p\n  open | >- q\n",
-        ),
-        (
-            "goal and_i_not : >- or{p; q} by rule and_i",
-            "goal and_i_not: failed NoMatch at strategy 1 | >- or{p; q}\n",
-        ),
-        (
-            "goal and_e : a: and{p; q}; b: r >- s{'b} by rule and_e at 1",
-            "goal and_e: 1 open\nrule and_e at 1 | x1: and{p; q}; x2: r >- s{'x2}\n  open | x1: p; x2: q; x3: r >- s{'x3}\n",
-        ),
-        (
-            "goal and_e_not : a: and{p; q}; b: r >- s{'a} by rule and_e at 1",
-            "goal and_e_not: failed NoMatch at strategy 1 | x1: and{p; q}; x2: r >- s{'x1}\n",
-        ),
-        (
-            "goal or_l : >- or{p; q} by rule or_l",
-            "goal or_l: 1 open\nrule or_l | >- or{p; q}\n  open | >- p\n",
-        ),
-        (
-            "goal or_l_not : >- and{p; q} by rule or_l",
-            "goal or_l_not: failed NoMatch at strategy 1 | >- and{p; q}\n",
-        ),
-        (
-            "goal or_r : >- or{p; q} by rule or_r",
-            "goal or_r: 1 open\nrule or_r | >- or{p; q}\n  open | >- q\n",
-        ),
-        (
-            "goal or_r_not : >- p by rule or_r",
-            "goal or_r_not: failed NoMatch at strategy 1 | >- p\n",
-        ),
-        (
-            "goal or_e : a: or{p; q} >- r by rule or_e at 1",
-            "goal or_e: 2 open\nrule or_e at 1 | x1: or{p; q} >- r\n  open | x1: p >- r\n  open | x1: q >- r\n",
-        ),
-        (
-            "goal or_e_not : a: and{p; q} >- r by rule or_e at 1",
-            "goal or_e_not: failed NoMatch at strategy 1 | x1: and{p; q} >- r\n",
-        ),
-        (
-            "goal imp_i : a: p >- imp{q; r{'a}} by rule imp_i",
-            "goal imp_i: 1 open\nrule imp_i | x1: p >- imp{q; r{'x1}}\n  open | x1: p; x2: q >- r{'x1}\n",
-        ),
-        (
-            "goal imp_i_not : >- imp{p} by rule imp_i",
-            "goal imp_i_not: failed NoMatch at strategy 1 | >- imp{p}\n",
-        ),
-        (
-            "goal imp_e : a: imp{p; q} >- r by rule imp_e at 1",
-            "goal imp_e: 2 open\nrule imp_e at 1 | x1: imp{p; q} >- r\n  open | x1: imp{p; q} >- p\n  open | x1: imp{p; q}; x2: q >- r\n",
-        ),
-        (
-            "goal imp_e_not : a: imp{p; q} >- r by rule imp_e at 2",
-            "goal imp_e_not: failed NoMatch at strategy 1 | x1: imp{p; q} >- r\n",
-        ),
-        (
-            "goal all_i : >- all{nat; x. p{'x}} by rule all_i",
-            "goal all_i: 1 open\nrule all_i | >- all{nat; x1. p{'x1}}\n  open | x1: nat >- p{'x1}\n",
-        ),
-        (
-            "goal all_i_not : >- all{nat; p} by rule all_i",
-            "goal all_i_not: failed NoMatch at strategy 1 | >- all{nat; p}\n",
-        ),
-        (
-            "goal all_e : a: all{nat; y. p{'y}}; b: nat >- q by rule all_e at 1 with [T := 'x2]",
-            "goal all_e: 1 open\nrule all_e at 1 with [T := 'x2] | x1: all{nat; x1. p{'x1}}; x2: nat >- q\n  open | x1: all{nat; x1. p{'x1}}; x2: nat; x3: p{'x2} >- q\n",
-        ),
-        (
-            "goal all_e_not : a: p >- q by rule all_e at 1 with [T := c]",
-            "goal all_e_not: failed NoMatch at strategy 1 | x1: p >- q\n",
-        ),
-        (
-            "goal eq_refl : >- eq{f{c}; f{c}} by rule eq_refl",
-            "goal eq_refl: closed\nrule eq_refl | >- eq{f{c}; f{c}}\n",
-        ),
-        (
-            "goal eq_refl_not : >- eq{c; d} by rule eq_refl",
-            "goal eq_refl_not: failed NoMatch at strategy 1 | >- eq{c; d}\n",
-        ),
-    ] {
-        let closed = out.contains(": closed");
-        let status = if closed {
-            Status::AllClosed
-        } else {
-            Status::NotAll
-        };
-        assert!(rt;
-            runs(rt.alloc(), SEQ, [THEORY, script, ""], (status, out))?,
-            "{script}"
-        );
-    }
+fn a_subgoal_that_is_too_large_is_told(rt: HostRuntime) -> Result<(), Fail> {
+    let alloc = rt.alloc();
+    let term = around(alloc, "w{z", "; z", 9997, "}")?;
+    let script = format!(in alloc; "goal g : >- g{{{term}}} by rule more")?;
+    let out = format!(in alloc; "goal g: failed TooLarge at strategy 1 | >- g{{{term}}}\n")?;
+    let files = [DOUBLING, script.as_str(), ""];
+    let due = (Status::NotAll, out.as_str());
+    assert!(rt; runs(alloc, SEQ, files, due)?);
     Ok(())
 }
 
