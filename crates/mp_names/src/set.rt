@@ -1,5 +1,5 @@
 ghost use Rattle.std.specs.Prelude.{◌≡◌, [], IfOk, OnOk, OnErr};
-ghost use Rattle.mp_names.specs.Sets.{is_met, with_met};
+ghost use Rattle.mp_names.specs.Sets.{is_met, place_of, with_met};
 
 use indexmap::IndexSet;
 use mp_logic::{NoMemory, Sym};
@@ -41,5 +41,13 @@ impl NameSet {
             Ok(new) => Ok(!new),
             Err(_) => Err(NoMemory),
         }
+    }
+
+    /// The place of the name among the names that were met, in the order in which they were met, counted from 0.
+    /// None exactly where it wasn't met.
+    pub fn place(&self, name: Sym) -> Option<usize>
+        ensures { result ≡ place_of self.now name.0 }
+    {
+        self.set.get_index_of(&name.0)
     }
 }

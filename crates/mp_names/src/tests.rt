@@ -34,4 +34,7 @@ fn a_name_is_met_once(rt: HostRuntime) {
         };
         assert_eq!(rt; told, known);
     }
+    assert_eq!(rt; met.place(Sym(0)), Some(1));
+    assert_eq!(rt; met.place(Sym(1)), Some(2));
+    assert_eq!(rt; met.place(Sym(2)), None);
 }
