@@ -1,3 +1,4 @@
 pub mod Keys
 pub mod Meeting
+pub mod Places
 pub mod Tables

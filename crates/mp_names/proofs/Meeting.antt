@@ -15,7 +15,7 @@ or_comm true false = refl
 or_comm false true = refl
 or_comm false false = refl
 
-eq_comm : (m n : ℕ) → nat_eq m n ≡ nat_eq n m
+pub eq_comm : (m n : ℕ) → nat_eq m n ≡ nat_eq n m
 eq_comm m n = by (nat_eq m n) (nat_eq n m) refl refl
   where
     by : (b c : Bool) → nat_eq m n ≡ b → nat_eq n m ≡ c → b ≡ c
