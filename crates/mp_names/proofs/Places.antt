@@ -1,12 +1,14 @@
 -- Where numbers that were met stand, in lists of what has them.
-use Rattle.std.proofs.Common.{◌≡◌, ℕ, List, [], ◌∷◌, map, length, slice_get, cond, nat_lt, Some, None, Bool, true, false, nat_eq, refl, ap, ◌∙◌, arith}
+use Rattle.std.proofs.Common.{◌≡◌, ℕ, List, [], ◌∷◌, map, length, slice_get, cond, nat_lt, Some, None, Bool, true, false, nat_eq, refl, ap, ◌∙◌, arith, ◌||◌}
 use Rattle.std.specs.List.{find, position_or_len}
-use Rattle.std.specs.Option.{option_and_then}
+use Rattle.std.specs.Option.{is_some, option_and_then}
 use Rattle.std.proofs.lemmas.Bool.{ltb-false}
+use Rattle.std.proofs.lemmas.Bool.Decides.{nat_tests}
+use Rattle.std.proofs.lemmas.Grind.{common_steps}
 use Rattle.std.proofs.lemmas.List.{length-map}
 use Rattle.std.proofs.lemmas.List.Folds.{find_at}
 use Rattle.std.proofs.lemmas.Option.{slice_get_past}
-use Rattle.mp_names.specs.Sets.{place_of}
+use Rattle.mp_names.specs.Sets.{is_met, place_of}
 use Rattle.mp_names.proofs.Meeting.{eq_comm}
 
 module _ {A : Type 0} (number : A → ℕ) where
@@ -28,3 +30,19 @@ module _ {A : Type 0} (number : A → ℕ) where
       by : (b : Bool) → nat_lt k (length (map number items)) ≡ b → slice_get items k ≡ option_and_then (slice_get items) (cond b (Some k) None)
       by true e = refl
       by false e = let l = length-map items number in let f = ltb-false k (length (map number items)) e in slice_get_past items k (omega (arith, f, l))
+
+first_within : (met : List ℕ) (n : ℕ) → nat_lt (position_or_len (nat_eq n) met) (length met) ≡ is_met met n
+first_within [] n = refl
+first_within (m ∷ met) n = by (nat_eq n m) refl (first_within met n)
+  where
+    by : (b : Bool) → nat_eq n m ≡ b → nat_lt (position_or_len (nat_eq n) met) (length met) ≡ is_met met n → nat_lt (position_or_len (nat_eq n) (m ∷ met)) (length (m ∷ met)) ≡ (b || is_met met n)
+    by true e r = rw e (grind (arith, nat_tests, common_steps))
+    by false e r = rw e (grind (r, arith, nat_tests, common_steps))
+
+-- a number has a place exactly where it was met
+pub placed_met : (met : List ℕ) (n : ℕ) → is_some (place_of met n) ≡ is_met met n
+placed_met met n = by (nat_lt (position_or_len (nat_eq n) met) (length met)) ∙ first_within met n
+  where
+    by : (b : Bool) → is_some (cond b (Some (position_or_len (nat_eq n) met)) None) ≡ b
+    by true = refl
+    by false = refl

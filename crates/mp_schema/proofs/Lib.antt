@@ -1,9 +1,11 @@
 pub mod Applied
 pub mod Befores
 pub mod Conditional
+pub mod Entering
 pub mod Faultless
 pub mod Finding
 pub mod Fitting
+pub mod HoleNames
 pub mod Layers
 pub mod Likeness
 pub mod Names

@@ -99,6 +99,10 @@ abbrev pub first_fault : List (SchemaFault × Bool) → Option SchemaFault
 first_fault [] = None
 first_fault ((f, kept) ∷ rest) = if kept then first_fault rest else Some f
 
+-- the fault of the last two demands on a rule: that uses are alike, and that holes are filled
+abbrev pub late_fault : Bool → Bool → Option SchemaFault
+late_fault consistent filled = first_fault ((fault.BadUse, consistent) ∷ (fault.UnboundParam, filled) ∷ [])
+
 module _ (premises : List Schema) (concl : Schema) where
   -- each schema of a rule keeps this
   abbrev pub each_schema : (Schema → Bool) → Bool

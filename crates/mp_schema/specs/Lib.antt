@@ -7,4 +7,5 @@ pub mod Limits
 pub mod Occurrences
 pub mod Places
 pub mod Sequents
+pub mod Tables
 pub mod Values

@@ -5,8 +5,9 @@
 //! variable a term and each hole a parameter. `specs/Instances.antt` and `specs/Sequents.antt` define them, and
 //! `specs/Conditions.antt` says what matching and building ask of them.
 //!
-//! `rule_fault` and `rewrite_fault` answer what is wrong with a rule or a rewrite. `specs/Faults.antt` defines each
-//! fault, and `specs/Faultless.antt` says what is known where there is none.
+//! `rule_fault` and `rewrite_fault` answer what is wrong with a rule or a rewrite, and `find_rule_fault` does so in linear
+//! time with tables in memory. `specs/Faults.antt` defines each fault, and `specs/Faultless.antt` says what is known where
+//! there is none.
 //!
 //! Second-order variables are those of G. Huet and B. Lang, "Proving and applying program transformations
 //! expressed with second-order patterns", 1978; that those of a conclusion are applied to distinct variables
@@ -20,6 +21,8 @@ mod demand;
 mod fault;
 mod find;
 mod first;
+mod first_uses;
+mod hole_names;
 mod holes;
 mod instance;
 mod laws;
@@ -40,5 +43,5 @@ pub use instance::{CtxVal, Inst, MetaVal, ParamVal};
 pub use laws::{faultless_laws, fitting_laws};
 pub use pattern::{PBound, ParamPat, Pattern};
 pub use rewrite::rewrite_fault;
-pub use rule::rule_fault;
+pub use rule::{find_rule_fault, rule_fault};
 pub use schema::{Item, Schema};

@@ -1,26 +1,63 @@
-ghost use Rattle.std.specs.Prelude.{◌≡◌};
-ghost use Rattle.mp_schema.specs.Faults.{rule_is_few, rule_is_shallow, rule_is_small, rule_is_closed, rule_is_listed, rule_is_single, rule_has_few_contexts, rule_is_framed, rule_is_on_variables, rule_is_consistent, rule_is_filled, rule_fault_of};
+ghost use Rattle.std.specs.Prelude.{◌≡◌, IfOk};
+ghost use Rattle.std.specs.List.{list_all, flat_map};
+ghost use Rattle.std.specs.Option.{option_or};
+ghost use Rattle.mp_schema.specs.Conditions.{has_all};
+ghost use Rattle.mp_schema.specs.Occurrences.{holes_in_schema};
+ghost use Rattle.mp_schema.specs.Faults.{rule_is_few, rule_is_shallow, rule_is_small, rule_is_closed, rule_is_listed, rule_is_single, rule_has_few_contexts, rule_is_framed, rule_is_on_variables, rule_is_consistent, rule_is_filled, late_fault, occurrences_of_rule, rule_fault_of};
 
 use crate::contexts::{
     count_contexts, has_contexts_of, is_schema_framed, is_schema_listed, is_schema_single,
 };
-use crate::demand::schema_keeps;
-use crate::holes::are_schemata_filled;
+use crate::demand::{Demand, schema_keeps};
+use crate::first_uses::find_first_uses;
+use crate::hole_names::find_hole_names;
+use crate::holes::{Holes, are_schemata_filled};
 use crate::levels::is_schema_closed;
 use crate::limits::{is_few, is_shallow, is_small};
 use crate::uses::{AsInRule, OnVariables};
 use crate::{Schema, SchemaFault};
-use mp_logic::List;
+use mp_logic::{List, NoMemory};
+use std::alloc::Global;
 
 const MOST_PREMISES: usize = 16;
 
 /// The first fault of the rule with these premises and this conclusion, in the order of `SchemaFault`; None where
-/// it has none. It takes no memory.
-#[tactic(auto, unfolding(crate::specs::Faults::rule_has_few_contexts, crate::specs::Faults::rule_is_framed, crate::specs::Faults::rule_is_on_variables, crate::specs::Faults::rule_is_filled))]
+/// it has none. It takes no memory, and looks the first use of a name up by a walk over the rule, so its time may grow
+/// with the square of the rule: `find_rule_fault` is for rules that may be long.
+#[tactic(auto, unfolding(crate::specs::Faults::rule_is_consistent, crate::specs::Faults::rule_is_filled))]
 pub fn rule_fault(premises: &List<Schema>, concl: &Schema) -> Option<SchemaFault>
     ensures { result ≡ rule_fault_of premises.now concl.now }
 {
     let premises = premises.as_slice();
+    match early_rule_fault(premises, concl) {
+        Some(fault) => Some(fault),
+        None => late_rule_fault(premises, concl, &AsInRule { premises, concl }, concl),
+    }
+}
+
+/// The same fault, in time that is linear in the rule. It takes memory for tables of the rule's first uses and of the
+/// holes of its conclusion: where there is none, `rule_fault` has the answer.
+pub fn find_rule_fault(
+    alloc: Global,
+    premises: &List<Schema>,
+    concl: &Schema,
+) -> Result<Option<SchemaFault>, NoMemory>
+    ensures { IfOk result (λ fault. fault ≡ rule_fault_of premises.now concl.now) }
+{
+    let premises = premises.as_slice();
+    if let Some(fault) = early_rule_fault(premises, concl) {
+        return Ok(Some(fault));
+    }
+    let uses = find_first_uses(alloc, premises, concl)?;
+    let holes = find_hole_names(alloc, concl)?;
+    Ok(late_rule_fault(premises, concl, &uses, &holes))
+}
+
+// The first fault of those before BadUse. Where there is none, the last two demands decide.
+#[tactic(auto, unfolding(crate::specs::Faults::rule_has_few_contexts, crate::specs::Faults::rule_is_framed, crate::specs::Faults::rule_is_on_variables))]
+fn early_rule_fault(premises: &[Schema], concl: &Schema) -> Option<SchemaFault>
+    ensures { rule_fault_of premises.now concl.now ≡ option_or result (late_fault (rule_is_consistent premises.now concl.now) (rule_is_filled premises.now concl.now)) }
+{
     if !is_rule_few(premises, concl) {
         return Some(SchemaFault::TooMany);
     }
@@ -48,10 +85,23 @@ pub fn rule_fault(premises: &List<Schema>, concl: &Schema) -> Option<SchemaFault
     if !schema_keeps(concl, &OnVariables) {
         return Some(SchemaFault::NotAPattern);
     }
-    if !is_rule_consistent(premises, concl) {
+    None
+}
+
+// The first fault of the last two, where this demand is that uses are as at their first one, and these are the holes of
+// the conclusion.
+fn late_rule_fault<D: Demand, H: Holes>(
+    premises: &[Schema],
+    concl: &Schema,
+    demand: &D,
+    known: &H,
+) -> Option<SchemaFault>
+    ensures { result ≡ late_fault (list_all (D.keeps demand.now) (occurrences_of_rule premises.now concl.now)) (has_all (H.holes known.now) (flat_map holes_in_schema premises.now)) }
+{
+    if !are_uses_kept(premises, concl, demand) {
         return Some(SchemaFault::BadUse);
     }
-    if !are_schemata_filled(premises, concl) {
+    if !are_schemata_filled(premises, known) {
         return Some(SchemaFault::UnboundParam);
     }
     None
@@ -132,15 +182,13 @@ fn is_rule_listed(premises: &[Schema], concl: &Schema) -> bool
     is_schema_listed(concl)
 }
 
-#[tactic(auto, unfolding(crate::specs::Faults::rule_is_consistent))]
-fn is_rule_consistent(premises: &[Schema], concl: &Schema) -> bool
-    ensures { result ≡ rule_is_consistent premises.now concl.now }
+fn are_uses_kept<D: Demand>(premises: &[Schema], concl: &Schema, demand: &D) -> bool
+    ensures { result ≡ list_all (D.keeps demand.now) (occurrences_of_rule premises.now concl.now) }
 {
-    let demand = AsInRule { premises, concl };
     for premise in premises {
-        if !schema_keeps(premise, &demand) {
+        if !schema_keeps(premise, demand) {
             return false;
         }
     }
-    schema_keeps(concl, &demand)
+    schema_keeps(concl, demand)
 }

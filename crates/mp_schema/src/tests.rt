@@ -1,5 +1,5 @@
 use crate::*;
-use mp_logic::{List, Sym};
+use mp_logic::{List, NoMemory, Sym};
 use std::alloc::Global;
 use std::test::Fail;
 
@@ -169,14 +169,29 @@ fn premise(alloc: Global, p: Pattern) -> Result<Schema, Fail> {
     })
 }
 
-// The fault that is told of a rule with these faults, a premise for each.
+// The fault that is told of a rule, by tables and without memory.
+fn fault_of(
+    alloc: Global,
+    premises: Vec<Schema>,
+    concl: &Schema,
+) -> Result<Option<SchemaFault>, Fail> {
+    let premises = List::from_vec(premises);
+    let told = rule_fault(&premises, concl);
+    match find_rule_fault(alloc, &premises, concl) {
+        Ok(found) if found == told => Ok(told),
+        Ok(_) => Err(Fail::from("two faults")),
+        Err(NoMemory) => Err(Fail::from("no memory")),
+    }
+}
+
+// That of a rule with these faults, a premise for each.
 fn told(alloc: Global, faults: &[SchemaFault]) -> Result<Option<SchemaFault>, Fail> {
     let mut premises = Vec::new(alloc);
     for fault in faults {
         premises.push(premise(alloc, in_premise(alloc, *fault)?)?)?;
     }
     let concl = conclusion(alloc, faults)?;
-    Ok(rule_fault(&List::from_vec(premises), &concl))
+    fault_of(alloc, premises, &concl)
 }
 
 #[test]
@@ -210,7 +225,35 @@ fn at_the_limits_there_is_no_fault(rt: HostRuntime) -> Result<(), Fail> {
     ] {
         let premises = vec![in alloc; premise(alloc, limited(alloc, fault, false)?)?]?;
         let concl = conclusion(alloc, &[])?;
-        assert_eq!(rt; rule_fault(&List::from_vec(premises), &concl), None);
+        assert_eq!(rt; fault_of(alloc, premises, &concl)?, None);
+    }
+    Ok(())
+}
+
+#[test]
+fn a_use_is_compared_with_the_first_one_of_its_name(rt: HostRuntime) -> Result<(), Fail> {
+    let alloc = rt.alloc();
+    for (second, wanted) in [
+        ([0u32].as_slice(), None),
+        ([].as_slice(), Some(SchemaFault::BadUse)),
+    ] {
+        let premises = vec![in alloc;
+            premise(alloc, under(alloc, 1, meta(alloc, B, &[], &[0])?)?)?,
+            premise(alloc, under(alloc, 1, meta(alloc, B, &[], second)?)?)?,
+        ]?;
+        let concl = conclusion(alloc, &[])?;
+        assert_eq!(rt; fault_of(alloc, premises, &concl)?, wanted);
+    }
+    Ok(())
+}
+
+#[test]
+fn a_hole_of_a_premise_is_one_of_the_conclusion(rt: HostRuntime) -> Result<(), Fail> {
+    let alloc = rt.alloc();
+    for (hole, wanted) in [(6u32, None), (7, Some(SchemaFault::UnboundParam))] {
+        let premises = vec![in alloc; premise(alloc, holed(alloc, hole)?)?]?;
+        let concl = premise(alloc, holed(alloc, 6)?)?;
+        assert_eq!(rt; fault_of(alloc, premises, &concl)?, wanted);
     }
     Ok(())
 }
