@@ -1,3 +1,4 @@
 pub mod Allowed
+pub mod Fresh
 pub mod Needs
 pub mod Tables

@@ -1,5 +1,5 @@
 -- A theory as the list of its rules, and what may be added to it.
-use Rattle.std.specs.Prelude.{◌≡◌, ℕ, List, [], ◌∷◌, Bool, false, nat_eq, if◌then◌else◌, Option, Some, None, is_none, is_some, position, Result, Ok, Err, IsTrue, ⊤}
+use Rattle.std.specs.Prelude.{◌≡◌, ℕ, List, [], ◌∷◌, Bool, nat_eq, if◌then◌else◌, Option, Some, None, is_none, is_some, position, Result, Ok, Err, IsTrue, ⊤}
 use Rattle.mp_logic.specs.declared.sym.Sym.{Sym}
 use Rattle.mp_schema.specs.declared.schema.Schema.{Schema}
 use Rattle.mp_schema.specs.declared.fault.SchemaFault.{SchemaFault}

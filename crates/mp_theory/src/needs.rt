@@ -1,8 +1,13 @@
+#![tactic(auto, using(crate::proofs::Gathered::gathering))]
+
 ghost use Rattle.std.specs.Prelude.{◌≡◌, ◌++◌, ◌∷◌, [], map, length, IfOk, OnOk};
-ghost use Rattle.mp_theory.specs.Needs.{needs_of, first_uses, joined_by, is_needed, all_uses, uses_of, uses_bound, item_uses, schema_uses};
+ghost use Rattle.mp_names.specs.Sets.{with_met};
+ghost use Rattle.mp_theory.specs.Needs.{needs_of, all_uses, uses_of, uses_bound, item_uses, schema_uses};
+ghost use Rattle.mp_theory.specs.Fresh.{fresh_uses, with_all};
 
 use crate::Need;
 use mp_logic::{List, NoMemory, Sym};
+use mp_names::NameSet;
 use mp_schema::{Item, PBound, Pattern, Schema};
 use std::alloc::Global;
 
@@ -10,7 +15,7 @@ use std::alloc::Global;
 const MOST_ARGUMENTS: u64 = 4294967295;
 
 /// The second-order variables of the premises that the conclusion doesn't have, in the order of their first uses.
-#[tactic(auto, using(crate::proofs::Gathered::first_uses_append))]
+#[tactic(auto, using(crate::proofs::Gathered::needs_fresh))]
 pub(crate) fn find_needs(
     alloc: Global,
     premises: &List<Schema>,
@@ -18,52 +23,53 @@ pub(crate) fn find_needs(
 ) -> Result<List<Need>, NoMemory>
     ensures { IfOk result (λ needs. needs ≡ needs_of premises.now concl.now) }
 {
-    let none = List::new(alloc);
+    let mut met = NameSet::new(alloc);
     let mut bound = List::new(alloc);
-    gather_schema(alloc, concl, &none, &mut bound)?;
+    gather_schema(alloc, concl, &mut met, &mut bound)?;
     let mut needs = List::new(alloc);
-    gather_premises(alloc, premises.as_slice(), &bound, &mut needs)?;
+    gather_premises(alloc, premises.as_slice(), &mut met, &mut needs)?;
     Ok(needs)
 }
 
 fn gather_premises(
     alloc: Global,
     premises: &[Schema],
-    skip: &List<Need>,
+    met: &mut NameSet,
     held: &mut List<Need>,
 ) -> Result<(), NoMemory>
-    ensures { OnOk result (held.new ≡ first_uses skip.now held.old (all_uses (map schema_uses premises.now))) }
+    ensures held { OnOk result (held.new ≡ held.old ++ fresh_uses met.old (all_uses (map schema_uses premises.now))) }
+    ensures met { OnOk result (met.new ≡ with_all met.old (all_uses (map schema_uses premises.now))) }
 {
     for premise in premises {
-        gather_schema(alloc, premise, skip, held)?;
+        gather_schema(alloc, premise, met, held)?;
     }
     Ok(())
 }
 
-#[tactic(auto, using(crate::proofs::Gathered::first_uses_append))]
 fn gather_schema(
     alloc: Global,
     schema: &Schema,
-    skip: &List<Need>,
+    met: &mut NameSet,
     held: &mut List<Need>,
 ) -> Result<(), NoMemory>
-    ensures { OnOk result (held.new ≡ first_uses skip.now held.old (schema_uses schema.now)) }
+    ensures held { OnOk result (held.new ≡ held.old ++ fresh_uses met.old (schema_uses schema.now)) }
+    ensures met { OnOk result (met.new ≡ with_all met.old (schema_uses schema.now)) }
 {
-    gather_items(alloc, schema.items.as_slice(), skip, held)?;
-    gather_pattern(alloc, &schema.concl, skip, held)
+    gather_items(alloc, schema.items.as_slice(), met, held)?;
+    gather_pattern(alloc, &schema.concl, met, held)
 }
 
-#[tactic(auto, using(crate::proofs::Gathered::first_uses_append))]
 fn gather_items(
     alloc: Global,
     items: &[Item],
-    skip: &List<Need>,
+    met: &mut NameSet,
     held: &mut List<Need>,
 ) -> Result<(), NoMemory>
-    ensures { OnOk result (held.new ≡ first_uses skip.now held.old (all_uses (map item_uses items.now))) }
+    ensures held { OnOk result (held.new ≡ held.old ++ fresh_uses met.old (all_uses (map item_uses items.now))) }
+    ensures met { OnOk result (met.new ≡ with_all met.old (all_uses (map item_uses items.now))) }
 {
     for item in items {
-        gather_item(alloc, item, skip, held)?;
+        gather_item(alloc, item, met, held)?;
     }
     Ok(())
 }
@@ -71,82 +77,84 @@ fn gather_items(
 fn gather_item(
     alloc: Global,
     item: &Item,
-    skip: &List<Need>,
+    met: &mut NameSet,
     held: &mut List<Need>,
 ) -> Result<(), NoMemory>
-    ensures { OnOk result (held.new ≡ first_uses skip.now held.old (item_uses item.now)) }
+    ensures held { OnOk result (held.new ≡ held.old ++ fresh_uses met.old (item_uses item.now)) }
+    ensures met { OnOk result (met.new ≡ with_all met.old (item_uses item.now)) }
 {
     match item {
-        Item::Hyp(pattern) => gather_pattern(alloc, pattern, skip, held),
-        Item::Ctx { args, .. } => gather_arguments(alloc, args.as_slice(), skip, held),
+        Item::Hyp(pattern) => gather_pattern(alloc, pattern, met, held),
+        Item::Ctx { args, .. } => gather_arguments(alloc, args.as_slice(), met, held),
     }
 }
 
 #[cycle(gathering)]
-#[tactic(auto, using(crate::proofs::Gathered::first_uses_append))]
 fn gather_pattern(
     alloc: Global,
     pattern: &Pattern,
-    skip: &List<Need>,
+    met: &mut NameSet,
     held: &mut List<Need>,
 ) -> Result<(), NoMemory>
-    ensures { OnOk result (held.new ≡ first_uses skip.now held.old (uses_of pattern.now)) }
+    ensures held { OnOk result (held.new ≡ held.old ++ fresh_uses met.old (uses_of pattern.now)) }
+    ensures met { OnOk result (met.new ≡ with_all met.old (uses_of pattern.now)) }
 {
     match pattern {
         Pattern::Var(_) => Ok(()),
-        Pattern::Op { subs, .. } => gather_bodies(alloc, subs.as_slice(), skip, held),
+        Pattern::Op { subs, .. } => gather_bodies(alloc, subs.as_slice(), met, held),
         Pattern::Meta { name, ctxs, args } => {
             let arity = args.len().min(MOST_ARGUMENTS) as u32;
-            join(alloc, *name, ctxs, arity, skip, held)?;
-            gather_arguments(alloc, args.as_slice(), skip, held)
+            join(alloc, *name, ctxs, arity, met, held)?;
+            gather_arguments(alloc, args.as_slice(), met, held)
         }
     }
 }
 
 #[cycle(gathering)]
-#[tactic(auto, using(crate::proofs::Gathered::first_uses_append))]
 fn gather_bodies(
     alloc: Global,
     subs: &[PBound],
-    skip: &List<Need>,
+    met: &mut NameSet,
     held: &mut List<Need>,
 ) -> Result<(), NoMemory>
-    ensures { OnOk result (held.new ≡ first_uses skip.now held.old (all_uses (map uses_bound subs.now))) }
+    ensures held { OnOk result (held.new ≡ held.old ++ fresh_uses met.old (all_uses (map uses_bound subs.now))) }
+    ensures met { OnOk result (met.new ≡ with_all met.old (all_uses (map uses_bound subs.now))) }
 {
     for sub in subs {
-        gather_pattern(alloc, &sub.body, skip, held)?;
+        gather_pattern(alloc, &sub.body, met, held)?;
     }
     Ok(())
 }
 
 #[cycle(gathering)]
-#[tactic(auto, using(crate::proofs::Gathered::first_uses_append))]
 fn gather_arguments(
     alloc: Global,
     args: &[Pattern],
-    skip: &List<Need>,
+    met: &mut NameSet,
     held: &mut List<Need>,
 ) -> Result<(), NoMemory>
-    ensures { OnOk result (held.new ≡ first_uses skip.now held.old (all_uses (map uses_of args.now))) }
+    ensures held { OnOk result (held.new ≡ held.old ++ fresh_uses met.old (all_uses (map uses_of args.now))) }
+    ensures met { OnOk result (met.new ≡ with_all met.old (all_uses (map uses_of args.now))) }
 {
     for arg in args {
-        gather_pattern(alloc, arg, skip, held)?;
+        gather_pattern(alloc, arg, met, held)?;
     }
     Ok(())
 }
 
-// A name that is held already, or to be skipped, adds nothing.
+// A name that was met adds nothing.
 fn join(
     alloc: Global,
     name: Sym,
     ctxs: &List<Sym>,
     arity: u32,
-    skip: &List<Need>,
+    met: &mut NameSet,
     held: &mut List<Need>,
 ) -> Result<(), NoMemory>
-    ensures { OnOk result (held.new ≡ joined_by skip.now held.old (record { name = name; ctxs = ctxs.now; arity = arity })) }
+    ensures held { OnOk result (held.new ≡ held.old ++ fresh_uses met.old (record { name = name; ctxs = ctxs.now; arity = arity } ∷ [])) }
+    ensures met { OnOk result (met.new ≡ with_met met.old name.0) }
 {
-    if is_among(skip, name) || is_among(held, name) {
+    if met.meet(name)? {
         return Ok(());
     }
     let ctxs = copy_names(alloc, ctxs)?;
@@ -154,17 +162,6 @@ fn join(
         Ok(()) => Ok(()),
         Err((_, refused)) => Err(refused),
     }
-}
-
-fn is_among(needs: &List<Need>, name: Sym) -> bool
-    ensures { result ≡ is_needed needs.now name }
-{
-    for need in needs.as_slice() {
-        if need.name.0 == name.0 {
-            return true;
-        }
-    }
-    false
 }
 
 fn copy_names(alloc: Global, names: &List<Sym>) -> Result<List<Sym>, NoMemory>

@@ -6,7 +6,7 @@ use crate::Rule;
 use crate::needs::find_needs;
 use indexmap::IndexMap;
 use mp_logic::{List, NoMemory, Sym};
-use mp_schema::{Schema, SchemaFault, rule_fault};
+use mp_schema::{Schema, SchemaFault, find_rule_fault, rule_fault};
 use std::alloc::Global;
 use std::marker::Model;
 use thiserror::Error;
@@ -75,7 +75,12 @@ impl Theory {
         if self.rule_named(name).is_some() {
             return Err(TheoryErr::Taken);
         }
-        if let Some(fault) = rule_fault(&premises, &concl) {
+        let found = match find_rule_fault(alloc, &premises, &concl) {
+            Ok(found) => found,
+            // The same answer without memory, which takes longer.
+            Err(NoMemory) => rule_fault(&premises, &concl),
+        };
+        if let Some(fault) = found {
             return Err(TheoryErr::Schema(fault));
         }
         let Ok(needs) = find_needs(alloc, &premises, &concl) else {

@@ -1,4 +1,4 @@
-use Rattle.std.proofs.Common.{List, ◌≡◌, ◌<◌, ◌++◌, ◌∷◌, [], length, map, ap, ◌∙◌, subst, sym, None, arith}
+use Rattle.std.proofs.Common.{List, ◌≡◌, ◌++◌, ◌∷◌, [], length, map, ap, ◌∙◌, subst, sym, None, arith}
 use Rattle.std.proofs.lemmas.List.{length-map, length-append}
 use Rattle.mp_theory.specs.Tables.{AreRules, place_of}
 use Rattle.mp_theory.proofs.Entries.{Entry, rule_in, key_of, name_in, entered_last, rules_push, keys_push, are_rules_push}

@@ -1,8 +1,7 @@
-use Rattle.std.proofs.Common.{◌≡◌, map, ap, ◌∙◌, subst, sym, Some, None, rules}
+use Rattle.std.proofs.Common.{map, ap, ◌∙◌, sym}
 use Rattle.std.specs.Prelude.{slice_get}
 use Rattle.std.specs.Option.{option_map}
 use Rattle.std.proofs.lemmas.Option.{slice_get-map}
-use Rattle.mp_theory.specs.Tables.{IsRule}
 use Rattle.mp_theory.proofs.Entries.{rule_in, rule_at}
 use Rattle.mp_theory.proofs.theory.Theory.rule.Goals as goal
 

@@ -1,4 +1,4 @@
-use Rattle.std.proofs.Common.{◌≡◌, ap, ◌∙◌, subst, sym}
+use Rattle.std.proofs.Common.{ap, ◌∙◌}
 use Rattle.mp_theory.specs.Tables.{place_of}
 use Rattle.mp_theory.proofs.Entries.{place_by_key}
 use Rattle.mp_theory.proofs.theory.Theory.rule_named.Goals as goal
