@@ -23,6 +23,7 @@ pub(crate) fn find_needs(
 ) -> Result<List<Need>, NoMemory>
     ensures { IfOk result (λ needs. needs ≡ needs_of premises.now concl.now) }
 {
+    // What the conclusion has is met first, and is no need.
     let mut met = NameSet::new(alloc);
     let mut bound = List::new(alloc);
     gather_schema(alloc, concl, &mut met, &mut bound)?;

@@ -77,7 +77,7 @@ impl Theory {
         }
         let found = match find_rule_fault(alloc, &premises, &concl) {
             Ok(found) => found,
-            // The same answer without memory, which takes longer.
+            // It answers the same in longer time, so want of memory hides no fault.
             Err(NoMemory) => rule_fault(&premises, &concl),
         };
         if let Some(fault) = found {
