@@ -4,11 +4,11 @@ use Rattle.mp_termtext.specs.declared.word.Word.{Word}
 use Rattle.mp_termtext.specs.declared.word.Keyword.{Keyword}
 use Rattle.mp_termtext.specs.declared.word.Keyword.TheVariants as keyword
 use Rattle.mp_termtext.specs.declared.raw.RawNumber.{RawNumber}
-use Rattle.mp_termtext.specs.Parts.{IsWord, IsNumberAt, IsNameAt, Lacks, Both, StuckBoth, After, StuckAfter, StuckOptional, IfThere, Repeated, StuckRepeated, HasOne, AreApart, HasOneStop, OneReading}
-use Rattle.mp_termtext.proofs.Combine.{one_word, one_name_at, one_number_at, one_both, one_after, one_if_there, one_repeated, one_many}
+use Rattle.mp_termtext.specs.Parts.{IsWord, IsNumberAt, IsNameBehind, StuckNameBehind, Lacks, Both, StuckBoth, After, StuckAfter, StuckOptional, IfThere, Repeated, StuckRepeated, HasOne, AreApart, HasOneStop, OneReading}
+use Rattle.mp_termtext.proofs.Combine.{one_word, one_name_behind, one_number_at, one_both, one_after, one_if_there, one_repeated, one_many}
 use Rattle.mp_drill.specs.declared.raw.RawEvent.{RawEvent}
 use Rattle.mp_drill.specs.declared.raw.RawEvent.TheVariants as event
-use Rattle.mp_drill.specs.ScheduleGrammar.{has_worker, is_reissue, is_event_word, begins_event, IsSend, IsEvent, IsWorkerWord, StuckEvent, IsGoalName, StuckGoalName, IsSection, StuckSection, IsSchedule, StuckSchedule}
+use Rattle.mp_drill.specs.ScheduleGrammar.{has_worker, is_reissue, is_event_word, begins_event, IsSend, IsEvent, IsWorkerWord, StuckEvent, IsSection, StuckSection, IsSchedule, StuckSchedule}
 
 -- at one place stands one word, with the same words behind it
 same_word : (k l : Keyword) (ts us vs : List Word) → IsWord k ts us → IsWord l ts vs → k ≡ l
@@ -103,12 +103,9 @@ event_stop ts r s (inr h) (inr k) = h.2.1 ∙ same_rest h.1.0 k.1.0 ts h.0 k.0 h
 one_event : OneReading IsEvent StuckEvent
 one_event = record { value = event_has_one; apart = event_apart; stop = event_stop }
 
-one_goal_name : OneReading IsGoalName StuckGoalName
-one_goal_name = one_after (IsWord keyword.Goal) IsNameAt (Lacks IsNameAt) (one_word keyword.Goal) one_name_at
-
-one_parts : OneReading (Both IsGoalName (Repeated IsEvent begins_event)) StuckSection
+one_parts : OneReading (Both (IsNameBehind keyword.Goal) (Repeated IsEvent begins_event)) StuckSection
 one_parts =
-    one_both IsGoalName (Repeated IsEvent begins_event) StuckGoalName (StuckRepeated IsEvent begins_event StuckEvent) one_goal_name (one_repeated IsEvent StuckEvent one_event begins_event)
+    one_both (IsNameBehind keyword.Goal) (Repeated IsEvent begins_event) (StuckNameBehind keyword.Goal) (StuckRepeated IsEvent begins_event StuckEvent) (one_name_behind keyword.Goal) (one_repeated IsEvent StuckEvent one_event begins_event)
 
 section_has_one : HasOne IsSection
 section_has_one x y ts r s h k =

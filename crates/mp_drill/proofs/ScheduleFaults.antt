@@ -1,5 +1,5 @@
 -- The least fault of a schedule so far goes on from one part to the next.
-use Rattle.std.proofs.Common.{◌≡◌, ◌++◌, ◌+◌, ◌<◌, ℕ, suc, List, [], ◌∷◌, Option, None, Some, Bool, true, false, not, ◌||◌, ◌&&◌, nat_lt, nat_eq, if◌then◌else◌, refl, ap, sym, ◌∙◌, map, take, drop, length, get_or, drop-cons, add-one, append_assoc, arith}
+use Rattle.std.proofs.Common.{◌≡◌, ◌++◌, ◌+◌, ◌<◌, ℕ, List, [], ◌∷◌, Option, None, Some, Bool, true, false, not, ◌||◌, ◌&&◌, nat_lt, nat_eq, if◌then◌else◌, refl, ap, sym, ◌∙◌, map, take, drop, length, get_or, append_assoc, arith}
 use Rattle.std.proofs.lemmas.List.{take_more, map-append}
 use Rattle.std.proofs.lemmas.List.Folds.{list_any-append}
 use Rattle.std.proofs.lemmas.Bool.Decides.{nat_tests}
@@ -10,13 +10,10 @@ use Rattle.mp_termtext.specs.declared.fault.Fault.{Fault}
 use Rattle.mp_termtext.specs.declared.fail.TextWhy.TheVariants as why
 use Rattle.mp_termtext.specs.declared.raw.RawName.{RawName}
 use Rattle.mp_termtext.specs.Faults.{fault_if, is_sooner, least_from, rank_of, sooner}
-use Rattle.mp_termtext.proofs.Soonest.{least_from_append}
+use Rattle.mp_termtext.proofs.FaultSteps.{three_parts}
+use Rattle.mp_termtext.proofs.Walks.{left_cons}
 use Rattle.mp_drill.specs.declared.raw.RawSection.{RawSection}
 use Rattle.mp_drill.specs.ScheduleStatics.{events_faults, name_faults, sections_faults}
-
--- what is left from place i on is the item there and the rest
-pub left_cons : {X : Type 0} (xs : List X) (i : ℕ) (x : X) → i < length xs → x ≡ get_or xs i x → drop i xs ≡ x ∷ drop (i + 1) xs
-left_cons xs i x lt is = drop-cons xs i x lt ∙ ap (λ y. y ∷ drop (suc i) xs) (sym is) ∙ ap (λ n. x ∷ drop n xs) (sym (add-one i))
 
 -- ## Names
 
@@ -93,7 +90,5 @@ module _ (ss : List RawSection) (i : ℕ) (s : RawSection) (lt : i < length ss) 
       let taken = names_of (take i ss) in
       let rest = sections_faults goals (taken ++ s.goal.name ∷ []) (drop (i + 1) ss) in
       let here = name_faults goals taken s.goal in
-      ap (λ ns. least_from next (sections_faults goals ns (drop (i + 1) ss))) names_next
-      ∙ ap (λ o. least_from o rest) (f ∙ ap (λ o. least_from o (events_faults s.events)) e ∙ sym (least_from_append held here (events_faults s.events)))
-      ∙ sym (least_from_append held (here ++ events_faults s.events) rest)
+      ap (λ ns. least_from next (sections_faults goals ns (drop (i + 1) ss))) names_next ∙ three_parts held mid next (least_from next rest) here (events_faults s.events) rest e f refl
       ∙ ap (λ ys. least_from held (sections_faults goals taken ys)) (sym (left_cons ss i s lt is)) ∙ prev

@@ -1,47 +1,33 @@
 -- Where no static rule of a schedule is broken, its events are in range.
-use Rattle.std.proofs.Common.{◌≡◌, ◌++◌, ℕ, ℤ, pos, negsuc, List, [], ◌∷◌, map, Option, None, Some, Bool, true, false, not, ◌&&◌, nat_le, refl, ap, ◌∙◌}
+use Rattle.std.proofs.Common.{◌≡◌, ◌++◌, List, [], ◌∷◌, map, Option, None, Some, true, ◌&&◌, nat_le, refl, ap, ◌∙◌}
 use Rattle.std.specs.Prelude.{nat_abs}
 use Rattle.std.specs.List.{flat_map}
 use Rattle.std.proofs.lemmas.Bool.{and_parts, and_from}
 use Rattle.mp_logic.specs.declared.sym.Sym.{Sym}
-use Rattle.mp_termtext.specs.declared.fail.TextWhy.TheVariants as why
 use Rattle.mp_termtext.specs.declared.raw.RawNumber.{RawNumber}
-use Rattle.mp_termtext.proofs.Faultless.{nil_parts, no_fault}
+use Rattle.mp_termtext.specs.Ranges.{number_faults}
+use Rattle.mp_termtext.proofs.Faultless.{nil_parts, number_between}
 use Rattle.mp_drill.specs.declared.raw.RawEvent.{RawEvent}
 use Rattle.mp_drill.specs.declared.raw.RawEvent.TheVariants as event
 use Rattle.mp_drill.specs.declared.raw.RawSection.{RawSection}
 use Rattle.mp_drill.specs.Ranges.{is_in_range, are_in_range}
-use Rattle.mp_drill.specs.ScheduleStatics.{is_between, number_faults, units_faults, event_faults, events_faults, name_faults, sections_faults}
+use Rattle.mp_drill.specs.ScheduleStatics.{units_faults, event_faults, events_faults, name_faults, sections_faults}
 use Rattle.mp_drill.specs.ScheduleValues.{units_of, event_of, schedule_of, EachInRange}
 
-pub between : (least most : ℕ) (n : RawNumber) → number_faults least most n ≡ [] → is_between least most n.value ≡ true
-between least most n h = by (is_between least most n.value) (no_fault (not (is_between least most n.value)) n.left why.BadNumber h)
-  where
-    by : (b : Bool) → not b ≡ false → b ≡ true
-    by true e = refl
-    by false e = absurd cc
-
-absolute : (least most : ℕ) (n : ℤ) → is_between least most n ≡ true → (nat_le least (nat_abs n) && nat_le (nat_abs n) most) ≡ true
-absolute least most (pos n) h = h
-absolute least most (negsuc n) h = absurd cc
-
-in_number : (least most : ℕ) (n : RawNumber) → number_faults least most n ≡ [] → (nat_le least (nat_abs n.value) && nat_le (nat_abs n.value) most) ≡ true
-in_number least most n h = absolute least most n.value (between least most n h)
-
 worker_in_range : (n : RawNumber) → number_faults 0 64 n ≡ [] → nat_le (nat_abs n.value) 64 ≡ true
-worker_in_range n h = (and_parts _ _ (in_number 0 64 n h)).1
+worker_in_range n h = (and_parts _ _ (number_between 0 64 n h)).1
 
 units_in_range : (units : Option RawNumber) → units_faults units ≡ [] → (nat_le 1 (units_of units) && nat_le (units_of units) 1000000) ≡ true
 units_in_range None h = refl
-units_in_range (Some units) h = in_number 1 1000000 units h
+units_in_range (Some units) h = number_between 1 1000000 units h
 
 event_in_range : (e : RawEvent) → event_faults e ≡ [] → is_in_range (event_of e) ≡ true
 event_in_range (event.Claim who) h = worker_in_range who h
 event_in_range (event.Send who units) h =
     let both = nil_parts (number_faults 0 64 who) (units_faults units) h in and_from _ _ (worker_in_range who both.0) (units_in_range units both.1)
 event_in_range (event.Again who) h = worker_in_range who h
-event_in_range (event.Die who) h = in_number 1 64 who h
-event_in_range (event.Lose who) h = in_number 1 64 who h
+event_in_range (event.Die who) h = number_between 1 64 who h
+event_in_range (event.Lose who) h = number_between 1 64 who h
 event_in_range event.Reissue h = refl
 
 events_in_range : (es : List RawEvent) → events_faults es ≡ [] → are_in_range (map event_of es) ≡ true

@@ -6,9 +6,8 @@ use Rattle.mp_termtext.specs.declared.word.Word.{Word}
 use Rattle.mp_termtext.specs.declared.word.Word.TheVariants as word
 use Rattle.mp_termtext.specs.declared.word.Keyword.{Keyword}
 use Rattle.mp_termtext.specs.declared.word.Keyword.TheVariants as keyword
-use Rattle.mp_termtext.specs.declared.raw.RawName.{RawName}
 use Rattle.mp_termtext.specs.declared.raw.RawNumber.{RawNumber}
-use Rattle.mp_termtext.specs.Parts.{IsWord, IsNameAt, IsNumberAt, Lacks, Both, StuckBoth, After, StuckAfter, StuckOptional, IfThere, Repeated, StuckRepeated, Many, StuckMany}
+use Rattle.mp_termtext.specs.Parts.{IsWord, IsNumberAt, IsNameBehind, StuckNameBehind, Lacks, Both, StuckBoth, After, StuckOptional, IfThere, Repeated, StuckRepeated, Many, StuckMany}
 use Rattle.mp_drill.specs.declared.raw.RawEvent.{RawEvent}
 use Rattle.mp_drill.specs.declared.raw.RawEvent.TheVariants as event
 use Rattle.mp_drill.specs.declared.raw.RawSection.{RawSection}
@@ -55,19 +54,12 @@ IsWorkerWord ts rest = (k : Keyword) × IsWord k ts rest × (has_worker k ≡ tr
 abbrev pub StuckEvent : List Word → List Word → Type 0
 StuckEvent ts rest = ((begins_event ts ≡ false) × (rest ≡ ts)) ⊎ StuckOptional IsWorkerWord (Lacks IsNumberAt) ts rest
 
--- goal and a name
-abbrev pub IsGoalName : RawName → List Word → List Word → Type 0
-IsGoalName = After (IsWord keyword.Goal) IsNameAt
-
-abbrev pub StuckGoalName : List Word → List Word → Type 0
-StuckGoalName = StuckAfter (IsWord keyword.Goal) (Lacks IsNameAt)
-
 -- goal NAME, and events as long as the next word begins one
 abbrev pub IsSection : RawSection → List Word → List Word → Type 0
-IsSection s = Both IsGoalName (Repeated IsEvent begins_event) (s.goal, s.events)
+IsSection s = Both (IsNameBehind keyword.Goal) (Repeated IsEvent begins_event) (s.goal, s.events)
 
 abbrev pub StuckSection : List Word → List Word → Type 0
-StuckSection = StuckBoth IsGoalName StuckGoalName (StuckRepeated IsEvent begins_event StuckEvent)
+StuckSection = StuckBoth (IsNameBehind keyword.Goal) (StuckNameBehind keyword.Goal) (StuckRepeated IsEvent begins_event StuckEvent)
 
 -- the sections, and nothing behind them
 abbrev pub IsSchedule : List RawSection → List Word → List Word → Type 0

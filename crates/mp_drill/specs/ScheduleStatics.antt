@@ -1,5 +1,5 @@
 -- The static rules of schedules as they are written.
-use Rattle.std.specs.Prelude.{ℕ, ℤ, pos, negsuc, ◌++◌, List, [], ◌∷◌, Option, None, Some, Bool, false, not, ◌&&◌, nat_le}
+use Rattle.std.specs.Prelude.{◌++◌, List, [], ◌∷◌, Option, not}
 use Rattle.std.specs.List.{flat_map}
 use Rattle.mp_logic.specs.declared.sym.Sym.{Sym}
 use Rattle.mp_names.specs.Sets.{is_among}
@@ -8,22 +8,14 @@ use Rattle.mp_termtext.specs.declared.fault.Fault.{Fault}
 use Rattle.mp_termtext.specs.declared.raw.RawName.{RawName}
 use Rattle.mp_termtext.specs.declared.raw.RawNumber.{RawNumber}
 use Rattle.mp_termtext.specs.Faults.{fault_if}
+use Rattle.mp_termtext.specs.Ranges.{number_faults, written_number_faults}
 use Rattle.mp_drill.specs.declared.raw.RawEvent.{RawEvent}
 use Rattle.mp_drill.specs.declared.raw.RawEvent.TheVariants as event
 use Rattle.mp_drill.specs.declared.raw.RawSection.{RawSection}
 
--- a number from the least up to the most
-abbrev pub is_between : ℕ → ℕ → ℤ → Bool
-is_between least most (pos n) = nat_le least n && nat_le n most
-is_between least most (negsuc n) = false
-
--- a number that is written is in its range
-abbrev pub number_faults : ℕ → ℕ → RawNumber → List Fault
-number_faults least most n = fault_if (not (is_between least most n.value)) n.left why.BadNumber
-
+-- the units of a send, where they are written
 abbrev pub units_faults : Option RawNumber → List Fault
-units_faults None = []
-units_faults (Some units) = number_faults 1 1000000 units
+units_faults = written_number_faults 1 1000000
 
 -- workers are 0 to 64, and those that die or are lost 1 to 64; units are 1 to 1,000,000
 abbrev pub event_faults : RawEvent → List Fault

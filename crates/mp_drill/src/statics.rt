@@ -2,12 +2,12 @@ ghost use Rattle.std.specs.Prelude.{◌≡◌, ◌++◌, List, IfOk, OnOk};
 ghost use Rattle.mp_logic.specs.declared.sym.Sym.{Sym};
 ghost use Rattle.mp_names.specs.Sets.{Met, with_met};
 ghost use Rattle.mp_termtext.specs.Faults.{least, least_from};
-ghost use Rattle.mp_drill.specs.ScheduleStatics.{number_faults, units_faults, event_faults, events_faults, name_faults, schedule_faults};
+ghost use Rattle.mp_drill.specs.ScheduleStatics.{event_faults, events_faults, name_faults, schedule_faults};
 
 use crate::raw::{RawEvent, RawSection};
 use mp_logic::{List, NoMemory, Sym};
 use mp_names::NameSet;
-use mp_termtext::{Fault, RawName, RawNumber, TextWhy, sooner_of};
+use mp_termtext::{Fault, RawName, TextWhy, check_number, check_written_number, sooner_of};
 use std::alloc::Global;
 
 /// The greatest worker.
@@ -15,26 +15,6 @@ const LAST_WORKER: u32 = 64;
 
 /// The most units of a send.
 const MOST_UNITS: u32 = 1_000_000;
-
-/// The sooner one of the fault that is held and BadNumber, for a number that isn't from the least up to the most.
-fn check_number(held: Option<Fault>, least: u32, most: u32, number: RawNumber) -> Option<Fault>
-    ensures { result ≡ least_from held (number_faults least most number) }
-{
-    if number.value < i64::from(least) || i64::from(most) < number.value {
-        sooner_of(held, number.left, TextWhy::BadNumber)
-    } else {
-        held
-    }
-}
-
-fn check_units(held: Option<Fault>, units: Option<RawNumber>) -> Option<Fault>
-    ensures { result ≡ least_from held (units_faults units) }
-{
-    match units {
-        Some(units) => check_number(held, 1, MOST_UNITS, units),
-        None => held,
-    }
-}
 
 /// The soonest of the fault that is held and those of an event.
 #[tactic(auto, using(mp_termtext::proofs::Soonest::least_from_append))]
@@ -45,7 +25,7 @@ fn check_event(held: Option<Fault>, raw: &RawEvent) -> Option<Fault>
         RawEvent::Claim(who) => check_number(held, 0, LAST_WORKER, *who),
         RawEvent::Send { who, units } => {
             let held = check_number(held, 0, LAST_WORKER, *who);
-            check_units(held, *units)
+            check_written_number(held, 1, MOST_UNITS, *units)
         }
         RawEvent::Again(who) => check_number(held, 0, LAST_WORKER, *who),
         RawEvent::Die(who) => check_number(held, 1, LAST_WORKER, *who),

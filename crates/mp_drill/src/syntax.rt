@@ -1,12 +1,12 @@
 ghost use Rattle.std.specs.Prelude.{◌<◌, ◌≤◌, [], length, IfOk};
 ghost use Rattle.mp_termtext.specs.Parts.{IsNumberAt, IfThere, Lacks, Reads};
-ghost use Rattle.mp_drill.specs.ScheduleGrammar.{begins_event, is_event_word, IsSend, IsEvent, StuckEvent, IsGoalName, StuckGoalName, IsSection, StuckSection, IsSchedule, StuckSchedule};
+ghost use Rattle.mp_drill.specs.ScheduleGrammar.{begins_event, is_event_word, IsSend, IsEvent, StuckEvent, IsSection, StuckSection, IsSchedule, StuckSchedule};
 
 use crate::raw::{RawEvent, RawSection};
 use mp_logic::List;
 use mp_termtext::{
-    Beginning, Keyword, RawName, RawNumber, ReadFail, Reader, Word, keyword, many, name_at,
-    number_at, repeated, stuck,
+    Beginning, Keyword, RawNumber, ReadFail, Reader, Word, keyword, many, name_behind, number_at,
+    repeated, stuck,
 };
 use std::alloc::Global;
 
@@ -108,20 +108,6 @@ impl Beginning for RawEvent {
     }
 }
 
-/// Reads `goal` and a name.
-fn parse_goal_name(words: &[Word]) -> Result<(RawName, &[Word]), ReadFail>
-    ensures reads { Reads (λ x. (x.0, x.1.now)) IsGoalName StuckGoalName words.now result }
-    ensures shorter { IfOk result (λ x. length x.1.now < length words.now) }
-{
-    let Some(at) = keyword(words, Keyword::Goal) else {
-        return Err(stuck(words));
-    };
-    match name_at(at) {
-        Some(read) => Ok(read),
-        None => Err(stuck(at)),
-    }
-}
-
 impl Reader for RawSection {
     type Raw = RawSection;
 
@@ -131,7 +117,7 @@ impl Reader for RawSection {
 
     /// Reads `goal`, a name and events, as long as the next word begins one.
     fn read(alloc: Global, words: &[Word]) -> Result<(RawSection, &[Word]), ReadFail> {
-        let (goal, at) = parse_goal_name(words)?;
+        let (goal, at) = name_behind(words, Keyword::Goal)?;
         let (events, rest) = repeated::<RawEvent>(alloc, at)?;
         Ok((RawSection { goal, events }, rest))
     }

@@ -1,7 +1,8 @@
 ghost use Rattle.std.specs.Prelude.{◌≡◌, [], true, map, nat_abs, IfOk, IsTrue};
 ghost use Rattle.std.specs.List.{flat_map};
 ghost use Rattle.mp_drill.specs.Ranges.{is_in_range, are_in_range};
-ghost use Rattle.mp_drill.specs.ScheduleStatics.{is_between, units_faults, event_faults, events_faults};
+ghost use Rattle.mp_termtext.specs.Ranges.{is_between};
+ghost use Rattle.mp_drill.specs.ScheduleStatics.{units_faults, event_faults, events_faults};
 ghost use Rattle.mp_drill.specs.ScheduleValues.{units_of, event_of, schedule_of, EachInRange};
 
 use crate::raw::{RawEvent, RawSection};

@@ -1,8 +1,9 @@
 -- Parts put together are read or stuck at each list of words where their parts are.
 use Rattle.std.proofs.Common.{◌≡◌, ◌⊎◌, inl, inr, ℕ, ◌+◌, ◌<◌, ◌≤◌, Bool, true, false, List, [], ◌∷◌, length, None, Some, refl, arith}
 use Rattle.mp_termtext.specs.declared.word.Word.{Word}
-use Rattle.mp_termtext.specs.Parts.{No, More, Both, StuckBoth, After, StuckAfter, Optional, StuckOptional, Ended, StuckEnded, Led, IfThere, Many, StuckMany, no_more, one_more, in_one, in_others, Repeated, StuckRepeated, no_further, one_further, in_first, in_further, Separated, StuckSeparated, last, more, here, behind, after, Listed, StuckListed}
-use Rattle.mp_run.proofs.Total.{Stands, Found, Decides, Total, SomeReading, by_length}
+use Rattle.mp_termtext.specs.declared.word.Keyword.{Keyword}
+use Rattle.mp_termtext.specs.Parts.{No, More, IsWord, IsNameAt, IsNameBehind, StuckNameBehind, Lacks, Both, StuckBoth, After, StuckAfter, Optional, StuckOptional, Ended, StuckEnded, Led, IfThere, Many, StuckMany, no_more, one_more, in_one, in_others, Repeated, StuckRepeated, no_further, one_further, in_first, in_further, Separated, StuckSeparated, last, more, here, behind, after, Listed, StuckListed}
+use Rattle.mp_run.proofs.Total.{Stands, Found, Decides, Total, SomeReading, by_length, word_stands, total_name_at}
 
 -- what has a word at least is read or stuck
 pub of_any_length : {X : Type 0} (A : X → List Word → List Word → Type 0) (SA : List Word → List Word → Type 0) (ts : List Word) → Decides 1 A SA ts → Decides 0 A SA ts
@@ -53,6 +54,10 @@ module _ {X : Type 0} (S : List Word → List Word → Type 0) (A : X → List W
   pub led_at : Stands S ts → ((us : List Word) → 1 + length us ≤ length ts → Decides 0 A SA us) → Decides 0 (Led S A) (StuckOptional S SA) ts
   led_at (inl k) next = led_there (there k.0 k.1 k.2 (next k.0 k.2))
   led_at (inr n) next = inl (None, ts, (n, refl), omega arith)
+
+-- a name behind its word
+pub total_name_behind : (k : Keyword) → Total 1 (IsNameBehind k) (StuckNameBehind k)
+total_name_behind k ts = after_at (IsWord k) IsNameAt (Lacks IsNameAt) ts (word_stands k ts) (λ us s. of_any_length IsNameAt (Lacks IsNameAt) us (total_name_at us))
 
 module _ {X : Type 0} (A : X → List Word → List Word → Type 0) (SA S : List Word → List Word → Type 0) (d : ℕ) (ts : List Word) where
   then_end : (x : X) (us : List Word) → A x ts us → d + length us ≤ length ts → Stands S us → Decides d (Ended A S) (StuckEnded A SA S) ts

@@ -14,11 +14,11 @@ use Rattle.mp_theorytext.specs.declared.raw.RawPattern.{RawPattern, Var, Op, Met
 use Rattle.mp_theorytext.specs.declared.raw.RawItem.TheVariants as item
 use Rattle.mp_theorytext.specs.declared.raw.RawItem.{RawItem}
 use Rattle.mp_theorytext.specs.declared.raw.RawSchema.{RawSchema}
-use Rattle.mp_termtext.specs.Parts.{No, None_of, Lacks, IsMark, IsWord, IsName, IsNameAt, IsCapAt, IsCapVar, Ended, StuckEnded, Both, StuckBoth, After, StuckAfter, Separated, StuckSeparated}
+use Rattle.mp_termtext.specs.Parts.{No, None_of, Lacks, IsMark, IsWord, IsName, IsNameBehind, StuckNameBehind, IsCapAt, IsCapVar, Ended, StuckEnded, Both, StuckBoth, After, StuckAfter, Separated, StuckSeparated}
 use Rattle.mp_termtext.specs.Grammar.{IsVariable, IsParamWord, AreBinders, StuckBinders}
-use Rattle.mp_theorytext.specs.Grammar.{IsParamPatWord, IsParamPat, StuckParamPat, AreParamPats, StuckParamPats, AreContexts, StuckContexts, IsPattern, AreArguments, AreArgs, AreSubs, AreBounds, IsBound, StuckPattern, StuckArguments, StuckArgs, StuckSubs, StuckBounds, StuckBound, variable, second_order, operator, no_arguments, some_arguments, last_arg, more_args, no_subs, some_subs, last_bound, more_bounds, bound, no_pattern, in_contexts, in_arguments, in_params, in_subs, in_brackets, in_arg, behind_arg, in_other_args, in_braces, in_bound, behind_bound, in_other_bounds, in_binders, in_body, IsContext, StuckContext, IsHypothesis, StuckHypothesis, IsItem, StuckItem, AreItems, StuckItems, IsSchema, StuckSchema, ArePremises, StuckPremises, IsRuleName, StuckRuleName, IsRule, StuckRule, IsTheory, StuckTheory}
-use Rattle.mp_run.proofs.Total.{Stands, Found, Decides, Total, SomeReading, by_length, mark_stands, word_stands, name_found, cap_var_found, total_name, total_name_at, total_cap_at}
-use Rattle.mp_run.proofs.TotalParts.{of_any_length, read_as, both_at, after_at, optional_at, ended_at, some_many, total_separated, total_listed}
+use Rattle.mp_theorytext.specs.Grammar.{IsParamPatWord, IsParamPat, StuckParamPat, AreParamPats, StuckParamPats, AreContexts, StuckContexts, IsPattern, AreArguments, AreArgs, AreSubs, AreBounds, IsBound, StuckPattern, StuckArguments, StuckArgs, StuckSubs, StuckBounds, StuckBound, variable, second_order, operator, no_arguments, some_arguments, last_arg, more_args, no_subs, some_subs, last_bound, more_bounds, bound, no_pattern, in_contexts, in_arguments, in_params, in_subs, in_brackets, in_arg, behind_arg, in_other_args, in_braces, in_bound, behind_bound, in_other_bounds, in_binders, in_body, IsContext, StuckContext, IsHypothesis, StuckHypothesis, IsItem, StuckItem, AreItems, StuckItems, IsSchema, StuckSchema, ArePremises, StuckPremises, IsRule, StuckRule, IsTheory, StuckTheory}
+use Rattle.mp_run.proofs.Total.{Stands, Found, Decides, Total, SomeReading, by_length, mark_stands, word_stands, name_found, cap_var_found, total_name, total_cap_at}
+use Rattle.mp_run.proofs.TotalParts.{of_any_length, read_as, both_at, after_at, optional_at, ended_at, some_many, total_name_behind, total_separated, total_listed}
 use Rattle.mp_run.proofs.TotalTerms.{variable_found, param_word_found, total_binders}
 
 -- ## Parameters and contexts
@@ -217,9 +217,6 @@ total_schema ts =
 total_premises : Total 1 ArePremises StuckPremises
 total_premises ts = total_listed IsSchema StuckSchema total_schema (IsMark mark.Comma) (IsMark mark.Yields) (mark_stands mark.Comma) (mark_stands mark.Yields) ts
 
-total_rule_name : Total 1 IsRuleName StuckRuleName
-total_rule_name ts = after_at (IsWord keyword.Rule) IsNameAt (Lacks IsNameAt) ts (word_stands keyword.Rule ts) (λ us s. of_any_length IsNameAt (Lacks IsNameAt) us (total_name_at us))
-
 abbrev Schemas : List RawSchema × RawSchema → List Word → List Word → Type 0
 Schemas = Both ArePremises IsSchema
 
@@ -230,12 +227,12 @@ total_schemas : Total 1 Schemas StuckSchemas
 total_schemas ts = both_at ArePremises IsSchema StuckPremises StuckSchema 1 ts (total_premises ts) (λ us s. of_any_length IsSchema StuckSchema us (total_schema us))
 
 abbrev RuleParts : RawName × (List RawSchema × RawSchema) → List Word → List Word → Type 0
-RuleParts = Both IsRuleName (After (IsMark mark.Colon) Schemas)
+RuleParts = Both (IsNameBehind keyword.Rule) (After (IsMark mark.Colon) Schemas)
 
 total_rule : Total 1 IsRule StuckRule
 total_rule ts =
     read_as RuleParts IsRule StuckRule StuckRule 1 ts (λ x. record { name = x.0; premises = x.1.0; concl = x.1.1 }) (λ x us h. h) (λ us h. h)
-    (both_at IsRuleName (After (IsMark mark.Colon) Schemas) StuckRuleName (StuckAfter (IsMark mark.Colon) StuckSchemas) 1 ts (total_rule_name ts)
+    (both_at (IsNameBehind keyword.Rule) (After (IsMark mark.Colon) Schemas) (StuckNameBehind keyword.Rule) (StuckAfter (IsMark mark.Colon) StuckSchemas) 1 ts (total_name_behind keyword.Rule ts)
     (λ us s. of_any_length (After (IsMark mark.Colon) Schemas) (StuckAfter (IsMark mark.Colon) StuckSchemas) us
     (after_at (IsMark mark.Colon) Schemas StuckSchemas us (mark_stands mark.Colon us) (λ vs t. of_any_length Schemas StuckSchemas vs (total_schemas vs)))))
 

@@ -7,12 +7,12 @@ use Rattle.mp_termtext.specs.declared.word.Keyword.{Keyword}
 use Rattle.mp_termtext.specs.declared.word.Keyword.TheVariants as keyword
 use Rattle.mp_termtext.specs.declared.raw.RawName.{RawName}
 use Rattle.mp_termtext.specs.declared.raw.RawNumber.{RawNumber}
-use Rattle.mp_termtext.specs.Parts.{IsWord, IsNameAt, IsNumberAt, Lacks, Both, After, IfThere, Repeated, StuckRepeated}
+use Rattle.mp_termtext.specs.Parts.{IsWord, IsNumberAt, IsNameBehind, StuckNameBehind, Lacks, Both, After, IfThere, Repeated, StuckRepeated}
 use Rattle.mp_drill.specs.declared.raw.RawEvent.{RawEvent}
 use Rattle.mp_drill.specs.declared.raw.RawEvent.TheVariants as event
-use Rattle.mp_drill.specs.ScheduleGrammar.{has_worker, begins_event, IsEvent, StuckEvent, IsGoalName, StuckGoalName, IsSection, StuckSection, IsSchedule, StuckSchedule}
-use Rattle.mp_run.proofs.Total.{Decides, Total, SomeReading, fewer, word_stands, number_at_found, total_name_at, total_number_at}
-use Rattle.mp_run.proofs.TotalParts.{of_any_length, read_as, both_at, after_at, if_there_at, some_many, total_repeated}
+use Rattle.mp_drill.specs.ScheduleGrammar.{has_worker, begins_event, IsEvent, StuckEvent, IsSection, StuckSection, IsSchedule, StuckSchedule}
+use Rattle.mp_run.proofs.Total.{Decides, Total, SomeReading, fewer, word_stands, number_at_found, total_number_at}
+use Rattle.mp_run.proofs.TotalParts.{of_any_length, read_as, both_at, after_at, if_there_at, some_many, total_name_behind, total_repeated}
 
 -- ## Events
 
@@ -59,16 +59,13 @@ total_event (word.Mark n ∷ ts) = inr (word.Mark n ∷ ts, inl (refl, refl))
 
 -- ## Sections
 
-total_goal_name : Total 1 IsGoalName StuckGoalName
-total_goal_name ts = after_at (IsWord keyword.Goal) IsNameAt (Lacks IsNameAt) ts (word_stands keyword.Goal ts) (λ us s. of_any_length IsNameAt (Lacks IsNameAt) us (total_name_at us))
-
 abbrev SectionParts : RawName × List RawEvent → List Word → List Word → Type 0
-SectionParts = Both IsGoalName (Repeated IsEvent begins_event)
+SectionParts = Both (IsNameBehind keyword.Goal) (Repeated IsEvent begins_event)
 
 total_section : Total 1 IsSection StuckSection
 total_section ts =
     read_as SectionParts IsSection StuckSection StuckSection 1 ts (λ x. record { goal = x.0; events = x.1 }) (λ x us h. h) (λ us h. h)
-    (both_at IsGoalName (Repeated IsEvent begins_event) StuckGoalName (StuckRepeated IsEvent begins_event StuckEvent) 1 ts (total_goal_name ts) (λ us s. total_repeated IsEvent StuckEvent total_event begins_event us))
+    (both_at (IsNameBehind keyword.Goal) (Repeated IsEvent begins_event) (StuckNameBehind keyword.Goal) (StuckRepeated IsEvent begins_event StuckEvent) 1 ts (total_name_behind keyword.Goal ts) (λ us s. total_repeated IsEvent StuckEvent total_event begins_event us))
 
 pub some_schedule : SomeReading IsSchedule StuckSchedule
 some_schedule ts = some_many IsSection StuckSection total_section ts

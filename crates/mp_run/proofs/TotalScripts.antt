@@ -7,20 +7,17 @@ use Rattle.mp_termtext.specs.declared.raw.RawBound.{RawBound}
 use Rattle.mp_termtext.specs.declared.raw.RawName.{RawName}
 use Rattle.mp_termtext.specs.declared.raw.RawNumber.{RawNumber}
 use Rattle.mp_termtext.specs.declared.raw.RawSequent.{RawSequent}
-use Rattle.mp_termtext.specs.Parts.{Lacks, IsMark, IsWord, IsNameAt, IsCapAt, IsNumberAt, Both, StuckBoth, After, StuckAfter, Separated, StuckSeparated}
+use Rattle.mp_termtext.specs.Parts.{Lacks, IsMark, IsWord, IsNameBehind, StuckNameBehind, IsCapAt, IsNumberAt, Both, StuckBoth, After, StuckAfter, Separated, StuckSeparated}
 use Rattle.mp_termtext.specs.Grammar.{IsBound, StuckBound, IsSequent, StuckSequent}
 use Rattle.mp_scripttext.specs.declared.raw.RawGiven.{RawGiven}
 use Rattle.mp_scripttext.specs.declared.raw.RawStrategy.{RawStrategy, Id, Step, Chain}
-use Rattle.mp_scripttext.specs.Grammar.{IsGivenTerm, IsGiven, StuckGiven, AreSomeGiven, StuckSomeGiven, AreGiven, StuckAllGiven, IsPlace, StuckPlace, IsStep, StuckStep, IsStrategy, IsChain, StuckStrategy, StuckChain, id, step, chain, last, more, no_strategy, in_step, in_chain, behind_chain, in_strategy, in_others, IsWhole, IsFuel, StuckFuel, IsGoalName, StuckGoalName, IsEntry, StuckEntry, IsScript, StuckScript}
-use Rattle.mp_run.proofs.Total.{Stands, Decides, Total, SomeReading, by_length, mark_stands, word_stands, total_name_at, total_cap_at, total_number_at}
-use Rattle.mp_run.proofs.TotalParts.{of_any_length, read_as, both_at, after_at, optional_at, led_at, some_many, total_separated}
+use Rattle.mp_scripttext.specs.Grammar.{IsGivenTerm, IsGiven, StuckGiven, AreSomeGiven, StuckSomeGiven, AreGiven, StuckAllGiven, IsPlace, StuckPlace, IsStep, StuckStep, IsStrategy, IsChain, StuckStrategy, StuckChain, id, step, chain, last, more, no_strategy, in_step, in_chain, behind_chain, in_strategy, in_others, IsWhole, IsFuel, StuckFuel, IsEntry, StuckEntry, IsScript, StuckScript}
+use Rattle.mp_run.proofs.Total.{Stands, Decides, Total, SomeReading, by_length, mark_stands, word_stands, total_cap_at, total_number_at}
+use Rattle.mp_run.proofs.TotalParts.{of_any_length, read_as, both_at, after_at, optional_at, led_at, some_many, total_name_behind, total_separated}
 use Rattle.mp_run.proofs.TotalTerms.{total_bound, total_sequent}
 
 number_there : Total 0 IsNumberAt (Lacks IsNumberAt)
 number_there ts = of_any_length IsNumberAt (Lacks IsNumberAt) ts (total_number_at ts)
-
-name_there : Total 0 IsNameAt (Lacks IsNameAt)
-name_there ts = of_any_length IsNameAt (Lacks IsNameAt) ts (total_name_at ts)
 
 -- ## Steps
 
@@ -61,13 +58,12 @@ total_place : Total 0 IsPlace StuckPlace
 total_place ts = led_at (IsWord keyword.At) IsNumberAt (Lacks IsNumberAt) ts (word_stands keyword.At ts) (λ us s. number_there us)
 
 abbrev StepParts : RawName × (Option RawNumber × List RawGiven) → List Word → List Word → Type 0
-StepParts = Both (After (IsWord keyword.Rule) IsNameAt) (Both IsPlace AreGiven)
+StepParts = Both (IsNameBehind keyword.Rule) (Both IsPlace AreGiven)
 
 total_step : Total 1 IsStep StuckStep
 total_step ts =
     read_as StepParts IsStep StuckStep StuckStep 1 ts (λ x. record { rule = x.0; place = x.1.0; given = x.1.1 }) (λ x us h. h) (λ us h. h)
-    (both_at (After (IsWord keyword.Rule) IsNameAt) (Both IsPlace AreGiven) (StuckAfter (IsWord keyword.Rule) (Lacks IsNameAt)) (StuckBoth IsPlace StuckPlace StuckAllGiven) 1 ts
-    (after_at (IsWord keyword.Rule) IsNameAt (Lacks IsNameAt) ts (word_stands keyword.Rule ts) (λ us s. name_there us))
+    (both_at (IsNameBehind keyword.Rule) (Both IsPlace AreGiven) (StuckNameBehind keyword.Rule) (StuckBoth IsPlace StuckPlace StuckAllGiven) 1 ts (total_name_behind keyword.Rule ts)
     (λ us s. both_at IsPlace AreGiven StuckPlace StuckAllGiven 0 us (total_place us) (λ vs t. total_all_given vs)))
 
 -- ## Strategies
@@ -123,9 +119,6 @@ whole_there ts =
 total_fuel : Total 0 IsFuel StuckFuel
 total_fuel ts = led_at (IsWord keyword.Fuel) IsNumberAt (Lacks IsNumberAt) ts (word_stands keyword.Fuel ts) (λ us s. number_there us)
 
-total_goal_name : Total 1 IsGoalName StuckGoalName
-total_goal_name ts = after_at (IsWord keyword.Goal) IsNameAt (Lacks IsNameAt) ts (word_stands keyword.Goal ts) (λ us s. name_there us)
-
 abbrev Proof : List RawStrategy × ℕ → List Word → List Word → Type 0
 Proof = After (IsWord keyword.By) IsWhole
 
@@ -157,12 +150,12 @@ fuelled_there ts =
     (after_at (IsMark mark.Colon) Proved StuckProved us (mark_stands mark.Colon us) (λ vs t. proved_there vs)))
 
 abbrev EntryParts : RawName × (Option RawNumber × (RawSequent × (List RawStrategy × ℕ))) → List Word → List Word → Type 0
-EntryParts = Both IsGoalName Fuelled
+EntryParts = Both (IsNameBehind keyword.Goal) Fuelled
 
 total_entry : Total 1 IsEntry StuckEntry
 total_entry ts =
     read_as EntryParts IsEntry StuckEntry StuckEntry 1 ts (λ x. record { name = x.0; fuel = x.1.0; goal = x.1.1.0; strategy = x.1.1.1.0; left = x.1.1.1.1 }) (λ x us h. h) (λ us h. h)
-    (both_at IsGoalName Fuelled StuckGoalName StuckFuelled 1 ts (total_goal_name ts) (λ us s. fuelled_there us))
+    (both_at (IsNameBehind keyword.Goal) Fuelled (StuckNameBehind keyword.Goal) StuckFuelled 1 ts (total_name_behind keyword.Goal ts) (λ us s. fuelled_there us))
 
 pub some_script : SomeReading IsScript StuckScript
 some_script ts = some_many IsEntry StuckEntry total_entry ts

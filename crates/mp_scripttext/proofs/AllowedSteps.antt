@@ -20,13 +20,14 @@ use Rattle.mp_termtext.specs.declared.raw.Binder.{Binder}
 use Rattle.mp_termtext.specs.declared.raw.RawNumber.{RawNumber}
 use Rattle.mp_termtext.specs.declared.fail.TextWhy.TheVariants as why
 use Rattle.mp_termtext.specs.Faults.{fault_if}
+use Rattle.mp_termtext.specs.Ranges.{written_number_faults}
 use Rattle.mp_termtext.specs.Statics.{bound_faults_of, names_of, raw_size_of}
 use Rattle.mp_termtext.specs.Values.{IsFaultlessBound, bound_value_of, value_of}
 use Rattle.mp_termtext.proofs.RawLayers.{bound_value-is}
 use Rattle.mp_termtext.proofs.Faultless.{nil_parts, no_fault}
 use Rattle.mp_scripttext.specs.declared.raw.RawGiven.{RawGiven}
 use Rattle.mp_scripttext.specs.declared.raw.RawStep.{RawStep}
-use Rattle.mp_scripttext.specs.Statics.{all_given_faults, given_faults, given_of, missing_faults, need_faults, need_of, number_faults, place_faults, rule_at, rule_faults, rule_named, step_faults, term_faults}
+use Rattle.mp_scripttext.specs.Statics.{all_given_faults, given_faults, given_of, missing_faults, need_faults, need_of, place_faults, rule_at, rule_faults, rule_named, step_faults, term_faults}
 use Rattle.mp_scripttext.specs.Values.{body_of, first_of, given_for, just_of, needs_at}
 use Rattle.mp_scripttext.proofs.DistinctNeeds.{AreFound, needs_found}
 use Rattle.mp_scripttext.proofs.GoodTerms.{Fits, term_fits, body_faultless}
@@ -131,7 +132,7 @@ placed rule s (Some n) h = no_failure (has_two_contexts rule.concl) (no_fault (n
 
 -- what a step without faults by this rule keeps
 pub record KeepsRule (rule : Rule) (s : RawStep) : Type 0 where
-  pub number : number_faults 1 201 s.place ≡ []
+  pub number : written_number_faults 1 201 s.place ≡ []
   pub terms : flat_map term_faults s.given ≡ []
   pub place : place_faults rule s s.place ≡ []
   pub there : flat_map (missing_faults s) rule.needs ≡ []
@@ -144,8 +145,8 @@ module _ (rules : List Rule) (s : RawStep) (at : ℕ) (rule : Rule) (found_at : 
   pub step_keeps : step_faults rules s ≡ [] → KeepsRule rule s
   step_keeps h =
       let terms = flat_map term_faults s.given in
-      let by_rule = nil_parts (number_faults 1 201 s.place ++ terms) (rule_faults (rule_named rules s.rule.name) s) h in
-      let alone = nil_parts (number_faults 1 201 s.place) terms by_rule.0 in
+      let by_rule = nil_parts (written_number_faults 1 201 s.place ++ terms) (rule_faults (rule_named rules s.rule.name) s) h in
+      let alone = nil_parts (written_number_faults 1 201 s.place) terms by_rule.0 in
       let missing = flat_map (missing_faults s) rule.needs in
       let given = nil_parts (place_faults rule s s.place ++ missing) (all_given_faults rule.needs [] s.given) (ap (λ o. rule_faults o s) (sym named) ∙ by_rule.1) in
       let first = nil_parts (place_faults rule s s.place) missing given.0 in

@@ -9,19 +9,21 @@ use Rattle.mp_theory.specs.declared.rule.Rule.{Rule}
 use Rattle.mp_termtext.specs.declared.fault.Fault.{Fault}
 use Rattle.mp_termtext.specs.declared.fail.TextWhy.TheVariants as why
 use Rattle.mp_termtext.specs.Faults.{fault_if, least_from}
+use Rattle.mp_termtext.specs.Ranges.{written_number_faults}
 use Rattle.mp_termtext.specs.Statics.{sequent_faults}
+use Rattle.mp_termtext.proofs.FaultSteps.{two_parts, three_parts}
+use Rattle.mp_termtext.proofs.Walks.{left_cons}
 use Rattle.mp_scripttext.specs.declared.raw.RawEntry.{RawEntry}
-use Rattle.mp_scripttext.specs.Statics.{entries_faults, entry_faults, number_faults, step_faults, strategy_faults}
+use Rattle.mp_scripttext.specs.Statics.{entries_faults, entry_faults, step_faults, strategy_faults}
 use Rattle.mp_scripttext.specs.Strategies.{whole_of}
-use Rattle.mp_scripttext.proofs.FaultWalks.{left_cons, two_parts, three_parts}
 
 -- the parts of a goal
-pub entry_parts : (rules : List Rule) (e : RawEntry) (held a b c d : Option Fault) → a ≡ least_from held (number_faults 0 400 e.fuel) → b ≡ least_from a (sequent_faults e.goal)
+pub entry_parts : (rules : List Rule) (e : RawEntry) (held a b c d : Option Fault) → a ≡ least_from held (written_number_faults 0 400 e.fuel) → b ≡ least_from a (sequent_faults e.goal)
     → c ≡ least_from b (fault_if (nat_lt 4096 (whole_of e.strategy).nodes) e.name.left why.TooMany ++ fault_if (nat_lt 64 (whole_of e.strategy).depth) e.left why.TooDeep)
     → d ≡ least_from c (flat_map (step_faults rules) (whole_of e.strategy).steps) → d ≡ least_from held (entry_faults rules e)
 entry_parts rules e held a b c d f g h k =
     let size = fault_if (nat_lt 4096 (whole_of e.strategy).nodes) e.name.left why.TooMany ++ fault_if (nat_lt 64 (whole_of e.strategy).depth) e.left why.TooDeep in
-    three_parts held a b d (number_faults 0 400 e.fuel) (sequent_faults e.goal) (strategy_faults rules e (whole_of e.strategy)) f g (two_parts b c d size (flat_map (step_faults rules) (whole_of e.strategy).steps) h k)
+    three_parts held a b d (written_number_faults 0 400 e.fuel) (sequent_faults e.goal) (strategy_faults rules e (whole_of e.strategy)) f g (two_parts b c d size (flat_map (step_faults rules) (whole_of e.strategy).steps) h k)
 
 abbrev pub goal_names : List RawEntry → List Sym
 goal_names es = map (λ e. e.name.name) es

@@ -9,12 +9,13 @@ use Rattle.mp_theory.specs.declared.rule.Rule.{Rule}
 use Rattle.mp_theory.specs.Allowed.{is_allowed}
 use Rattle.mp_termtext.specs.declared.fail.TextWhy.TheVariants as why
 use Rattle.mp_termtext.specs.Faults.{fault_if}
+use Rattle.mp_termtext.specs.Ranges.{written_number_faults}
 use Rattle.mp_termtext.specs.Statics.{sequent_faults}
 use Rattle.mp_termtext.proofs.Faultless.{nil_parts, no_fault}
 use Rattle.mp_scripttext.specs.declared.raw.RawEntry.{RawEntry}
 use Rattle.mp_scripttext.specs.declared.script.Entry.{Entry}
 use Rattle.mp_scripttext.specs.Entries.{EachGood, IsGoodEntry}
-use Rattle.mp_scripttext.specs.Statics.{entries_faults, entry_faults, number_faults, step_faults, strategy_faults}
+use Rattle.mp_scripttext.specs.Statics.{entries_faults, entry_faults, step_faults, strategy_faults}
 use Rattle.mp_scripttext.specs.Strategies.{whole_of}
 use Rattle.mp_scripttext.specs.Values.{entry_of, fuel_of, just_of}
 use Rattle.mp_scripttext.proofs.GoodSequents.{sequent_good}
@@ -25,7 +26,7 @@ at_most m n h = grind (arith, nat_tests, h)
 
 -- what a goal without faults keeps
 pub record Keeps (rules : List Rule) (e : RawEntry) : Type 0 where
-  pub fuel : number_faults 0 400 e.fuel ≡ []
+  pub fuel : written_number_faults 0 400 e.fuel ≡ []
   pub goal : sequent_faults e.goal ≡ []
   pub few : (whole_of e.strategy).nodes ≤ 4096
   pub shallow : (whole_of e.strategy).depth ≤ 64
@@ -34,8 +35,8 @@ pub record Keeps (rules : List Rule) (e : RawEntry) : Type 0 where
 pub entry_keeps : (rules : List Rule) (e : RawEntry) → entry_faults rules e ≡ [] → Keeps rules e
 entry_keeps rules e h =
     let s = whole_of e.strategy in
-    let both = nil_parts (number_faults 0 400 e.fuel ++ sequent_faults e.goal) (strategy_faults rules e s) h in
-    let first = nil_parts (number_faults 0 400 e.fuel) (sequent_faults e.goal) both.0 in
+    let both = nil_parts (written_number_faults 0 400 e.fuel ++ sequent_faults e.goal) (strategy_faults rules e s) h in
+    let first = nil_parts (written_number_faults 0 400 e.fuel) (sequent_faults e.goal) both.0 in
     let many = fault_if (nat_lt 4096 s.nodes) e.name.left why.TooMany in
     let deep = fault_if (nat_lt 64 s.depth) e.left why.TooDeep in
     let steps = nil_parts (many ++ deep) (flat_map (step_faults rules) s.steps) both.1 in

@@ -3,7 +3,6 @@ mod Behind
 mod ChainRows
 mod DistinctNeeds
 mod EntryWalks
-mod FaultWalks
 pub mod Found
 mod GoodEntries
 mod GoodSequents
@@ -12,7 +11,6 @@ pub mod OneScript
 mod RawTermInduction
 mod Shapes
 mod StepLists
-mod StepWalks
 mod StrategyInduction
 mod StrategyLayers
 mod Tables

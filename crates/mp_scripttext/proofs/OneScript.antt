@@ -7,14 +7,14 @@ use Rattle.mp_termtext.specs.declared.raw.RawBound.{RawBound}
 use Rattle.mp_termtext.specs.declared.raw.RawName.{RawName}
 use Rattle.mp_termtext.specs.declared.raw.RawNumber.{RawNumber}
 use Rattle.mp_termtext.specs.declared.raw.RawSequent.{RawSequent}
-use Rattle.mp_termtext.specs.Parts.{Lacks, IsMark, IsWord, IsNameAt, IsCapAt, IsNumberAt, Both, StuckBoth, After, StuckAfter, Separated, StuckSeparated, HasOne, OneReading}
+use Rattle.mp_termtext.specs.Parts.{Lacks, IsMark, IsWord, IsNameBehind, StuckNameBehind, IsCapAt, IsNumberAt, Both, StuckBoth, After, StuckAfter, Separated, StuckSeparated, HasOne, OneReading}
 use Rattle.mp_termtext.specs.Grammar.{IsBound, StuckBound, IsSequent, StuckSequent}
-use Rattle.mp_termtext.proofs.Combine.{one_mark, one_word, one_name_at, one_cap_at, one_number_at, one_placed, one_both, one_after, one_optional, one_led, one_many, one_separated}
+use Rattle.mp_termtext.proofs.Combine.{one_mark, one_word, one_name_behind, one_cap_at, one_number_at, one_placed, one_both, one_after, one_optional, one_led, one_many, one_separated}
 use Rattle.mp_termtext.proofs.OneTerm.{one_bound, one_sequent}
 use Rattle.mp_scripttext.specs.declared.raw.RawGiven.{RawGiven}
 use Rattle.mp_scripttext.specs.declared.raw.RawStep.{RawStep}
 use Rattle.mp_scripttext.specs.declared.raw.RawStrategy.{RawStrategy, Step, Chain}
-use Rattle.mp_scripttext.specs.Grammar.{IsGivenTerm, IsGiven, StuckGiven, AreSomeGiven, StuckSomeGiven, AreGiven, StuckAllGiven, IsPlace, StuckPlace, IsStep, StuckStep, IsStrategy, IsChain, StuckStrategy, StuckChain, id, step, chain, last, more, no_strategy, in_step, in_chain, behind_chain, in_strategy, in_others, IsWhole, IsFuel, StuckFuel, IsGoalName, StuckGoalName, IsEntry, StuckEntry, IsScript, StuckScript}
+use Rattle.mp_scripttext.specs.Grammar.{IsGivenTerm, IsGiven, StuckGiven, AreSomeGiven, StuckSomeGiven, AreGiven, StuckAllGiven, IsPlace, StuckPlace, IsStep, StuckStep, IsStrategy, IsChain, StuckStrategy, StuckChain, id, step, chain, last, more, no_strategy, in_step, in_chain, behind_chain, in_strategy, in_others, IsWhole, IsFuel, StuckFuel, IsEntry, StuckEntry, IsScript, StuckScript}
 
 -- ## Steps
 
@@ -49,12 +49,11 @@ one_place : OneReading IsPlace StuckPlace
 one_place = one_led (IsWord keyword.At) IsNumberAt (Lacks IsNumberAt) (one_word keyword.At) one_number_at
 
 abbrev StepParts : RawName × (Option RawNumber × List RawGiven) → List Word → List Word → Type 0
-StepParts = Both (After (IsWord keyword.Rule) IsNameAt) (Both IsPlace AreGiven)
+StepParts = Both (IsNameBehind keyword.Rule) (Both IsPlace AreGiven)
 
 one_step_parts : OneReading StepParts StuckStep
 one_step_parts =
-    one_both (After (IsWord keyword.Rule) IsNameAt) (Both IsPlace AreGiven) (StuckAfter (IsWord keyword.Rule) (Lacks IsNameAt)) (StuckBoth IsPlace StuckPlace StuckAllGiven)
-    (one_after (IsWord keyword.Rule) IsNameAt (Lacks IsNameAt) (one_word keyword.Rule) one_name_at)
+    one_both (IsNameBehind keyword.Rule) (Both IsPlace AreGiven) (StuckNameBehind keyword.Rule) (StuckBoth IsPlace StuckPlace StuckAllGiven) (one_name_behind keyword.Rule)
     (one_both IsPlace AreGiven StuckPlace StuckAllGiven one_place one_all_given)
 
 step_has_one : HasOne IsStep
@@ -182,9 +181,6 @@ one_whole = one_placed IsChain StuckChain one_chain (λ (s : List RawStrategy ×
 one_fuel : OneReading IsFuel StuckFuel
 one_fuel = one_led (IsWord keyword.Fuel) IsNumberAt (Lacks IsNumberAt) (one_word keyword.Fuel) one_number_at
 
-one_goal_name : OneReading IsGoalName StuckGoalName
-one_goal_name = one_after (IsWord keyword.Goal) IsNameAt (Lacks IsNameAt) (one_word keyword.Goal) one_name_at
-
 -- the sequent, `by` and the strategy
 abbrev GoalParts : RawSequent × (List RawStrategy × ℕ) → List Word → List Word → Type 0
 GoalParts = Both IsSequent (After (IsWord keyword.By) IsWhole)
@@ -198,11 +194,11 @@ one_goal_parts =
     (one_after (IsWord keyword.By) IsWhole StuckChain (one_word keyword.By) one_whole)
 
 abbrev EntryParts : RawName × (Option RawNumber × (RawSequent × (List RawStrategy × ℕ))) → List Word → List Word → Type 0
-EntryParts = Both IsGoalName (Both IsFuel (After (IsMark mark.Colon) GoalParts))
+EntryParts = Both (IsNameBehind keyword.Goal) (Both IsFuel (After (IsMark mark.Colon) GoalParts))
 
 one_entry_parts : OneReading EntryParts StuckEntry
 one_entry_parts =
-    one_both IsGoalName (Both IsFuel (After (IsMark mark.Colon) GoalParts)) StuckGoalName (StuckBoth IsFuel StuckFuel (StuckAfter (IsMark mark.Colon) StuckGoalParts)) one_goal_name
+    one_both (IsNameBehind keyword.Goal) (Both IsFuel (After (IsMark mark.Colon) GoalParts)) (StuckNameBehind keyword.Goal) (StuckBoth IsFuel StuckFuel (StuckAfter (IsMark mark.Colon) StuckGoalParts)) (one_name_behind keyword.Goal)
     (one_both IsFuel (After (IsMark mark.Colon) GoalParts) StuckFuel (StuckAfter (IsMark mark.Colon) StuckGoalParts) one_fuel
     (one_after (IsMark mark.Colon) GoalParts StuckGoalParts (one_mark mark.Colon) one_goal_parts))
 

@@ -1,9 +1,9 @@
 -- The nodes and the depth of strategies with `then` between each two, from left to right.
 use Rattle.std.proofs.Common.{◌≡◌, ◌+◌, ◌<◌, ℕ, List, [], ◌∷◌, max, map, refl, ap, sym, ◌∙◌, drop, length, get_or, arith}
 use Rattle.mp_logic.specs.Trees.{counted}
+use Rattle.mp_termtext.proofs.Walks.{left_cons}
 use Rattle.mp_scripttext.specs.declared.raw.RawStrategy.{RawStrategy}
 use Rattle.mp_scripttext.specs.Strategies.{Strategy, strategy_of, then_all, then_of, whole_of}
-use Rattle.mp_scripttext.proofs.FaultWalks.{left_cons}
 
 -- the nodes of a strategy of so many nodes and further ones
 abbrev pub nodes_all : ℕ → List Strategy → ℕ

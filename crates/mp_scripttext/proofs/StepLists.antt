@@ -29,7 +29,10 @@ flat_of_flat : {X Y A : Type 0} (f : Y → List A) (g : X → List Y) (xs : List
 flat_of_flat f g [] = refl
 flat_of_flat f g (x ∷ xs) = flat_map-append f (g x) (flat_map g xs) ∙ ap (λ ys. flat_map f (g x) ++ ys) (flat_of_flat f g xs)
 
+-- what the steps of a chain have is what those of its strategies have
+pub whole_flat : {A : Type 0} (f : RawStep → List A) (raws : List RawStrategy) → flat_map f (whole_of raws).steps ≡ flat_map (λ raw. flat_map f (strategy_of raw).steps) raws
+whole_flat f raws = ap (flat_map f) (whole_steps raws) ∙ flat_of_flat f (λ raw. (strategy_of raw).steps) raws
+
 -- where no step of a chain has a fault, none of a strategy in it has
 pub steps_faultless : (f : RawStep → List Fault) (raws : List RawStrategy) (i : ℕ) (raw : RawStrategy) → i < length raws → raw ≡ get_or raws i raw → flat_map f (whole_of raws).steps ≡ [] → flat_map f (strategy_of raw).steps ≡ []
-steps_faultless f raws i raw lt is h =
-    nil_at (λ r. flat_map f (strategy_of r).steps) raws i raw lt is (sym (flat_of_flat f (λ r. (strategy_of r).steps) raws) ∙ ap (flat_map f) (sym (whole_steps raws)) ∙ h)
+steps_faultless f raws i raw lt is h = nil_at (λ r. flat_map f (strategy_of r).steps) raws i raw lt is (sym (whole_flat f raws) ∙ h)

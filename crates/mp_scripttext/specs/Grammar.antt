@@ -7,9 +7,8 @@ use Rattle.mp_termtext.specs.declared.word.Word.{Word}
 use Rattle.mp_termtext.specs.declared.word.Mark.TheVariants as mark
 use Rattle.mp_termtext.specs.declared.word.Keyword.TheVariants as keyword
 use Rattle.mp_termtext.specs.declared.raw.RawBound.{RawBound}
-use Rattle.mp_termtext.specs.declared.raw.RawName.{RawName}
 use Rattle.mp_termtext.specs.declared.raw.RawNumber.{RawNumber}
-use Rattle.mp_termtext.specs.Parts.{No, Lacks, IsMark, IsWord, IsNameAt, IsCapAt, IsNumberAt, Both, StuckBoth, After, StuckAfter, Optional, StuckOptional, Led, Many, StuckMany, Separated, StuckSeparated}
+use Rattle.mp_termtext.specs.Parts.{No, Lacks, IsMark, IsWord, IsCapAt, IsNumberAt, IsNameBehind, StuckNameBehind, Both, StuckBoth, After, StuckAfter, Optional, StuckOptional, Led, Many, StuckMany, Separated, StuckSeparated}
 use Rattle.mp_termtext.specs.Grammar.{IsBound, StuckBound, IsSequent, StuckSequent}
 use Rattle.mp_scripttext.specs.declared.raw.RawGiven.{RawGiven}
 use Rattle.mp_scripttext.specs.declared.raw.RawStep.{RawStep}
@@ -50,10 +49,10 @@ StuckPlace = StuckOptional (IsWord keyword.At) (Lacks IsNumberAt)
 
 -- rule NAME, where it is tried, and what is given
 abbrev pub IsStep : RawStep → List Word → List Word → Type 0
-IsStep s = Both (After (IsWord keyword.Rule) IsNameAt) (Both IsPlace AreGiven) (s.rule, (s.place, s.given))
+IsStep s = Both (IsNameBehind keyword.Rule) (Both IsPlace AreGiven) (s.rule, (s.place, s.given))
 
 abbrev pub StuckStep : List Word → List Word → Type 0
-StuckStep = StuckBoth (After (IsWord keyword.Rule) IsNameAt) (StuckAfter (IsWord keyword.Rule) (Lacks IsNameAt)) (StuckBoth IsPlace StuckPlace StuckAllGiven)
+StuckStep = StuckBoth (IsNameBehind keyword.Rule) (StuckNameBehind keyword.Rule) (StuckBoth IsPlace StuckPlace StuckAllGiven)
 
 mutual
   -- the next word tells which form it is
@@ -89,20 +88,14 @@ IsFuel = Led (IsWord keyword.Fuel) IsNumberAt
 abbrev pub StuckFuel : List Word → List Word → Type 0
 StuckFuel = StuckOptional (IsWord keyword.Fuel) (Lacks IsNumberAt)
 
-abbrev pub IsGoalName : RawName → List Word → List Word → Type 0
-IsGoalName = After (IsWord keyword.Goal) IsNameAt
-
-abbrev pub StuckGoalName : List Word → List Word → Type 0
-StuckGoalName = StuckAfter (IsWord keyword.Goal) (Lacks IsNameAt)
-
 -- goal NAME, its fuel, a colon, the sequent, `by` and the strategy
 abbrev pub IsEntry : RawEntry → List Word → List Word → Type 0
 IsEntry e =
-    Both IsGoalName (Both IsFuel (After (IsMark mark.Colon) (Both IsSequent (After (IsWord keyword.By) IsWhole))))
+    Both (IsNameBehind keyword.Goal) (Both IsFuel (After (IsMark mark.Colon) (Both IsSequent (After (IsWord keyword.By) IsWhole))))
     (e.name, (e.fuel, (e.goal, (e.strategy, e.left))))
 
 abbrev pub StuckEntry : List Word → List Word → Type 0
-StuckEntry = StuckBoth IsGoalName StuckGoalName (StuckBoth IsFuel StuckFuel (StuckAfter (IsMark mark.Colon) (StuckBoth IsSequent StuckSequent (StuckAfter (IsWord keyword.By) StuckChain))))
+StuckEntry = StuckBoth (IsNameBehind keyword.Goal) (StuckNameBehind keyword.Goal) (StuckBoth IsFuel StuckFuel (StuckAfter (IsMark mark.Colon) (StuckBoth IsSequent StuckSequent (StuckAfter (IsWord keyword.By) StuckChain))))
 
 -- the goals, and nothing behind them
 abbrev pub IsScript : List RawEntry → List Word → List Word → Type 0

@@ -1,5 +1,5 @@
 -- The static rules of scripts as they are written, in a theory.
-use Rattle.std.specs.Prelude.{ℕ, ℤ, pos, negsuc, ◌++◌, List, [], ◌∷◌, length, Option, None, Some, Bool, false, ◌&&◌, not, nat_lt, nat_le, nat_eq, is_some, if◌then◌else◌, slice_get}
+use Rattle.std.specs.Prelude.{ℕ, ◌++◌, List, [], ◌∷◌, length, Option, None, Some, not, nat_lt, nat_eq, is_some, if◌then◌else◌, slice_get}
 use Rattle.std.specs.List.{flat_map}
 use Rattle.mp_logic.specs.declared.sym.Sym.{Sym}
 use Rattle.mp_names.specs.Sets.{is_among}
@@ -11,23 +11,12 @@ use Rattle.mp_termtext.specs.declared.raw.RawNumber.{RawNumber}
 use Rattle.mp_termtext.specs.declared.fail.TextWhy.TheVariants as why
 use Rattle.mp_termtext.specs.declared.fault.Fault.{Fault}
 use Rattle.mp_termtext.specs.Faults.{fault, fault_if}
+use Rattle.mp_termtext.specs.Ranges.{written_number_faults}
 use Rattle.mp_termtext.specs.Statics.{bound_term_faults, sequent_faults}
 use Rattle.mp_scripttext.specs.declared.raw.RawGiven.{RawGiven}
 use Rattle.mp_scripttext.specs.declared.raw.RawStep.{RawStep}
 use Rattle.mp_scripttext.specs.declared.raw.RawEntry.{RawEntry}
 use Rattle.mp_scripttext.specs.Strategies.{Strategy, whole_of}
-
--- ## Numbers
-
--- a number from the least up to the most
-abbrev pub in_range : (least most : ℕ) → ℤ → Bool
-in_range least most (pos n) = nat_le least n && nat_le n most
-in_range least most (negsuc n) = false
-
--- a number that is written is in its range
-abbrev pub number_faults : (least most : ℕ) → Option RawNumber → List Fault
-number_faults least most None = []
-number_faults least most (Some n) = fault_if (not (in_range least most n.value)) n.left why.BadNumber
 
 -- ## Given terms
 
@@ -85,7 +74,7 @@ rule_named rules name = rule_at rules (place_of rules name)
 
 -- the faults of a step: its place is 1 to 201, its given terms keep the rules of terms, and it fits its rule
 abbrev pub step_faults : List Rule → RawStep → List Fault
-step_faults rules s = number_faults 1 201 s.place ++ flat_map term_faults s.given ++ rule_faults (rule_named rules s.rule.name) s
+step_faults rules s = written_number_faults 1 201 s.place ++ flat_map term_faults s.given ++ rule_faults (rule_named rules s.rule.name) s
 
 -- ## Goals and scripts
 
@@ -96,7 +85,7 @@ strategy_faults rules e s =
 
 -- the faults of a goal but that its name is taken
 abbrev pub entry_faults : List Rule → RawEntry → List Fault
-entry_faults rules e = number_faults 0 400 e.fuel ++ sequent_faults e.goal ++ strategy_faults rules e (whole_of e.strategy)
+entry_faults rules e = written_number_faults 0 400 e.fuel ++ sequent_faults e.goal ++ strategy_faults rules e (whole_of e.strategy)
 
 -- those of goals behind goals of these names
 abbrev pub entries_faults : List Rule → List Sym → List RawEntry → List Fault

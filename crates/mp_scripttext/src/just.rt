@@ -2,7 +2,8 @@ ghost use Rattle.std.specs.Prelude.{◌≡◌, ◌++◌, ◌∷◌, [], length, 
 ghost use Rattle.std.specs.List.{flat_map, list_all};
 ghost use Rattle.std.specs.Option.{option_copied};
 ghost use Rattle.mp_theory.specs.Allowed.{is_allowed};
-ghost use Rattle.mp_scripttext.specs.Statics.{given_of, missing_faults, number_faults, step_faults, term_faults};
+ghost use Rattle.mp_termtext.specs.Ranges.{written_number_faults};
+ghost use Rattle.mp_scripttext.specs.Statics.{given_of, missing_faults, step_faults, term_faults};
 ghost use Rattle.mp_scripttext.specs.Strategies.{strategy_of, whole_of};
 ghost use Rattle.mp_scripttext.specs.Values.{first_of, given_for, just_of};
 
@@ -67,7 +68,7 @@ fn build_all_given(
 
 /// The size of the first context: one less than the number behind `at`.
 fn build_first(place: Option<RawNumber>) -> Option<u32>
-    requires { number_faults 1 201 place ≡ [] }
+    requires { written_number_faults 1 201 place ≡ [] }
     ensures { result ≡ first_of place }
 {
     match place {

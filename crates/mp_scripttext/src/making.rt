@@ -1,6 +1,7 @@
 ghost use Rattle.std.specs.Prelude.{◌≡◌, ◌≤◌, [], IfOk};
+ghost use Rattle.mp_termtext.specs.Ranges.{written_number_faults};
 ghost use Rattle.mp_scripttext.specs.Entries.{EachGood, IsGoodEntry};
-ghost use Rattle.mp_scripttext.specs.Statics.{entry_faults, number_faults, script_faults};
+ghost use Rattle.mp_scripttext.specs.Statics.{entry_faults, script_faults};
 ghost use Rattle.mp_scripttext.specs.Values.{entry_of, fuel_of, script_of};
 
 use crate::just::build_justs;
@@ -17,7 +18,7 @@ const DEFAULT_FUEL: u32 = 200;
 
 /// The fuel that is written.
 fn build_fuel(fuel: Option<RawNumber>) -> u32
-    requires { number_faults 0 400 fuel ≡ [] }
+    requires { written_number_faults 0 400 fuel ≡ [] }
     ensures value { result ≡ fuel_of fuel }
     ensures few { result ≤ 400 }
 {

@@ -7,10 +7,10 @@ ghost use Rattle.mp_scripttext.specs.Strategies.{strategy_of, whole_of};
 
 use crate::raw::{RawEntry, RawStrategy};
 use crate::shape::whole_shape;
-use crate::step_statics::{check_number, check_step};
+use crate::step_statics::check_step;
 use mp_logic::{List, NoMemory};
 use mp_names::NameSet;
-use mp_termtext::{Fault, RawName, TextWhy, check_sequent, sooner_of};
+use mp_termtext::{Fault, RawName, TextWhy, check_sequent, check_written_number, sooner_of};
 use mp_theory::Theory;
 use std::alloc::Global;
 
@@ -81,7 +81,7 @@ fn check_entry(
 ) -> Result<Option<Fault>, NoMemory>
     ensures { IfOk result (λ found. found ≡ least_from held (entry_faults theory.now raw.now)) }
 {
-    let held = check_number(held, raw.fuel, 0, MOST_FUEL);
+    let held = check_written_number(held, 0, MOST_FUEL, raw.fuel);
     let held = check_sequent(alloc, &raw.goal, held)?;
     let held = check_shape(held, raw);
     let found = check_whole(alloc, theory, raw.strategy.as_slice(), held)?;

@@ -1,28 +1,14 @@
-ghost use Rattle.std.specs.Prelude.{◌≡◌, ◌<◌, ◌≤◌, length, IfOk};
-ghost use Rattle.mp_termtext.specs.Parts.{IsNameAt, IsNumberAt, IsWord, Lacks, After, StuckAfter, Led, StuckOptional, Reads};
+ghost use Rattle.std.specs.Prelude.{◌<◌, ◌≤◌, length, IfOk};
+ghost use Rattle.mp_termtext.specs.Parts.{IsNumberAt, IsWord, Lacks, Led, StuckOptional, Reads};
 ghost use Rattle.mp_scripttext.specs.Grammar.{IsGiven, StuckGiven, AreSomeGiven, StuckSomeGiven, AreGiven, StuckAllGiven, IsStep, StuckStep};
 
 use crate::raw::{RawGiven, RawStep};
 use mp_logic::List;
 use mp_termtext::{
-    Keyword, Mark, RawName, RawNumber, ReadFail, Reader, Word, capital_at, keyword, mark, name_at,
+    Keyword, Mark, RawNumber, ReadFail, Reader, Word, capital_at, keyword, mark, name_behind,
     number_at, parse_bound, separated, stuck,
 };
 use std::alloc::Global;
-
-/// Reads this word and a name.
-pub fn parse_name_behind(words: &[Word], which: Keyword) -> Result<(RawName, &[Word]), ReadFail>
-    ensures reads { Reads (λ x. (x.0, x.1.now)) (After (IsWord which) IsNameAt) (StuckAfter (IsWord which) (Lacks IsNameAt)) words.now result }
-    ensures shorter { IfOk result (λ x. length x.1.now < length words.now) }
-{
-    let Some(at) = keyword(words, which) else {
-        return Err(stuck(words));
-    };
-    match name_at(at) {
-        Some(read) => Ok(read),
-        None => Err(stuck(at)),
-    }
-}
 
 /// Reads this word and a number; there is none where the word doesn't stand.
 pub fn parse_number_behind(
@@ -91,7 +77,7 @@ pub fn parse_step(alloc: Global, words: &[Word]) -> Result<(RawStep, &[Word]), R
     ensures reads { Reads (λ x. (x.0, x.1.now)) IsStep StuckStep words.now result }
     ensures shorter { IfOk result (λ x. length x.1.now < length words.now) }
 {
-    let (rule, at) = parse_name_behind(words, Keyword::Rule)?;
+    let (rule, at) = name_behind(words, Keyword::Rule)?;
     let (place, at) = parse_number_behind(at, Keyword::At)?;
     let (given, rest) = parse_given(alloc, at)?;
     Ok((RawStep { rule, place, given }, rest))

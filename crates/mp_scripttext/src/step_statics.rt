@@ -5,12 +5,12 @@ ghost use Rattle.mp_names.specs.Sets.{is_among};
 ghost use Rattle.mp_schema.specs.Conditions.{has_two_contexts, names_in};
 ghost use Rattle.mp_termtext.specs.declared.fail.TextWhy.TheVariants as why;
 ghost use Rattle.mp_termtext.specs.Faults.{fault_if, least_from};
-ghost use Rattle.mp_scripttext.specs.Statics.{all_given_faults, given_faults, given_of, missing_faults, need_faults, need_of, number_faults, place_faults, rule_faults, rule_named, step_faults, term_faults};
+ghost use Rattle.mp_scripttext.specs.Statics.{all_given_faults, given_faults, given_of, missing_faults, need_faults, need_of, place_faults, rule_faults, rule_named, step_faults, term_faults};
 
 use crate::raw::{RawGiven, RawStep};
 use mp_logic::{List, NoMemory, Sym};
 use mp_schema::{Item, Schema};
-use mp_termtext::{Fault, RawNumber, TextWhy, behind, check_bound_term, sooner_of};
+use mp_termtext::{Fault, TextWhy, behind, check_bound_term, check_written_number, sooner_of};
 use mp_theory::{Need, Rule, Theory};
 use std::alloc::Global;
 
@@ -19,25 +19,6 @@ const MOST_PLACE: u32 = 201;
 
 /// The variables `x1` to `x200` of a given term are free.
 const FREE: u32 = 200;
-
-/// The sooner one of the fault that is held and BadNumber, where a number stands that isn't from the least up to the most.
-pub(crate) fn check_number(
-    held: Option<Fault>,
-    number: Option<RawNumber>,
-    least: u32,
-    most: u32,
-) -> Option<Fault>
-    ensures { result ≡ least_from held (number_faults least most number) }
-{
-    let Some(number) = number else {
-        return held;
-    };
-    if i64::from(least) <= number.value && number.value <= i64::from(most) {
-        held
-    } else {
-        sooner_of(held, number.left, TextWhy::BadNumber)
-    }
-}
 
 /// The rule of this name.
 fn find_rule(theory: &Theory, name: Sym) -> Option<&Rule>
@@ -202,7 +183,7 @@ pub(crate) fn check_step(
 ) -> Result<Option<Fault>, NoMemory>
     ensures { IfOk result (λ found. found ≡ least_from held (step_faults theory.now raw.now)) }
 {
-    let held = check_number(held, raw.place, 1, MOST_PLACE);
+    let held = check_written_number(held, 1, MOST_PLACE, raw.place);
     let held = check_terms(alloc, raw.given.as_slice(), held)?;
     Ok(check_rule(held, find_rule(theory, raw.rule.name), raw))
 }

@@ -4,10 +4,10 @@ ghost use Rattle.mp_scripttext.specs.Grammar.{IsEntry, StuckEntry, IsScript, Stu
 
 use crate::chain::parse_chain;
 use crate::raw::RawEntry;
-use crate::step::{parse_name_behind, parse_number_behind};
+use crate::step::parse_number_behind;
 use mp_logic::List;
 use mp_termtext::{
-    Keyword, Mark, ReadFail, Reader, Word, keyword, many, mark, parse_sequent, stuck,
+    Keyword, Mark, ReadFail, Reader, Word, keyword, many, mark, name_behind, parse_sequent, stuck,
 };
 use std::alloc::Global;
 
@@ -20,7 +20,7 @@ impl Reader for RawEntry {
 
     /// Reads `goal`, a name, the fuel, if any, a colon, the sequent, `by` and the strategy.
     fn read(alloc: Global, words: &[Word]) -> Result<(RawEntry, &[Word]), ReadFail> {
-        let (name, at) = parse_name_behind(words, Keyword::Goal)?;
+        let (name, at) = name_behind(words, Keyword::Goal)?;
         let (fuel, at) = parse_number_behind(at, Keyword::Fuel)?;
         let Some(at) = mark(at, Mark::Colon) else {
             return Err(stuck(at));

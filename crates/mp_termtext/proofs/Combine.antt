@@ -5,7 +5,7 @@ use Rattle.mp_termtext.specs.declared.raw.RawName.{RawName}
 use Rattle.mp_termtext.specs.declared.raw.RawNumber.{RawNumber}
 use Rattle.mp_termtext.specs.declared.word.Mark.{Mark}
 use Rattle.mp_termtext.specs.declared.word.Keyword.{Keyword}
-use Rattle.mp_termtext.specs.Parts.{IsMark, IsWord, IsName, IsCap, IsCapVar, IsNumber, IsNameAt, IsCapAt, IsNumberAt, Lacks, Ended, StuckEnded, Led, IfThere, Both, StuckBoth, After, StuckAfter, Optional, StuckOptional, Maybe, StuckMaybe, Whole, StuckWhole, Many, StuckMany, no_more, one_more, in_one, in_others, Repeated, StuckRepeated, no_further, one_further, in_first, in_further, Separated, StuckSeparated, last, more, here, behind, after, Listed, StuckListed, HasOne, AreApart, HasOneStop, OneReading}
+use Rattle.mp_termtext.specs.Parts.{IsMark, IsWord, IsName, IsCap, IsCapVar, IsNumber, IsNameAt, IsCapAt, IsNumberAt, IsNameBehind, StuckNameBehind, Lacks, Ended, StuckEnded, Led, IfThere, Both, StuckBoth, After, StuckAfter, Optional, StuckOptional, Maybe, StuckMaybe, Whole, StuckWhole, Many, StuckMany, no_more, one_more, in_one, in_others, Repeated, StuckRepeated, no_further, one_further, in_first, in_further, Separated, StuckSeparated, last, more, here, behind, after, Listed, StuckListed, HasOne, AreApart, HasOneStop, OneReading}
 
 -- a sign leaves the same words
 abbrev pub SignHasOne : (List Word → List Word → Type 0) → Type 0
@@ -318,3 +318,6 @@ module _ {X : Type 0} (A : X → List Word → List Word → Type 0) (SA : List 
 
     pub one_listed : OneReading (Listed A S E) (StuckListed A SA S E)
     one_listed = record { value = listed_has_one; apart = listed_apart; stop = λ ts r s h k. separated_stop ts r s h.1 k.1 }
+
+pub one_name_behind : (k : Keyword) → OneReading (IsNameBehind k) (StuckNameBehind k)
+one_name_behind k = one_after (IsWord k) IsNameAt (Lacks IsNameAt) (one_word k) one_name_at

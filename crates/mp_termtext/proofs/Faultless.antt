@@ -1,10 +1,11 @@
 -- What follows where no static rule is broken: few binders, small levels, and the same for the parts.
-use Rattle.std.proofs.Common.{◌≡◌, ◌++◌, ◌+◌, ◌<◌, ◌≤◌, ◌^◌, ℕ, zero, suc, List, [], ◌∷◌, Option, None, Some, Bool, true, false, nat_lt, nat_eq, if◌then◌else◌, length, length-append, map, drop, get_or, drop-cons, add-one, slice_get, refl, ap, sym, subst, ◌∙◌, inl, inr, arith}
-use Rattle.std.specs.Prelude.{unwrap_or}
+use Rattle.std.proofs.Common.{◌≡◌, ◌++◌, ◌+◌, ◌<◌, ◌≤◌, ◌^◌, ℕ, ℤ, pos, negsuc, zero, suc, List, [], ◌∷◌, Option, None, Some, Bool, true, false, not, ◌&&◌, nat_le, nat_lt, nat_eq, if◌then◌else◌, length, length-append, map, drop, get_or, slice_get, refl, ap, sym, subst, ◌∙◌, inl, inr, arith}
+use Rattle.std.specs.Prelude.{nat_abs, unwrap_or}
 use Rattle.std.proofs.lemmas.Bool.Decides.{nat_tests}
 use Rattle.std.proofs.lemmas.Option.{slice_get_cases}
 use Rattle.mp_logic.specs.declared.sym.Sym.{Sym}
 use Rattle.mp_termtext.specs.declared.raw.Binder.{Binder}
+use Rattle.mp_termtext.specs.declared.raw.RawNumber.{RawNumber}
 use Rattle.mp_termtext.specs.declared.raw.RawParam.{RawParam}
 use Rattle.mp_termtext.specs.declared.raw.RawBound.{RawBound}
 use Rattle.mp_termtext.specs.declared.raw.RawTerm.{RawTerm, Var, Op}
@@ -13,8 +14,10 @@ use Rattle.mp_termtext.specs.declared.raw.RawSequent.{RawSequent}
 use Rattle.mp_termtext.specs.declared.fail.TextWhy.{TextWhy}
 use Rattle.mp_termtext.specs.declared.fail.TextWhy.TheVariants as why
 use Rattle.mp_termtext.specs.Faults.{fault_if, fault_at_any, too_many}
+use Rattle.mp_termtext.specs.Ranges.{is_between, number_faults}
 use Rattle.mp_termtext.specs.Statics.{bound_faults_of, deep, each_faults, faults_of, free_level, hyp_names, hyps_faults, left_of, level_by, level_of, names_of, or_here, place_in, raw_sequent_size_of, raw_size_of, sequent_faults, term_faults, unless_bound}
 use Rattle.mp_termtext.specs.Values.{AreFaultless, IsFaultless, IsFaultlessBound}
+use Rattle.mp_termtext.proofs.Walks.{left_cons}
 use Rattle.mp_termtext.proofs.RawLayers.{faults-Var, faults-Op, bound_faults-is}
 
 -- two lists that are none together are none
@@ -26,6 +29,18 @@ nil_parts (x ∷ xs) ys h = absurd cc
 pub no_fault : (b : Bool) (l : ℕ) (w : TextWhy) → fault_if b l w ≡ [] → b ≡ false
 no_fault true l w h = absurd cc
 no_fault false l w h = refl
+
+-- a number without a fault is in its range
+pub number_between : (least most : ℕ) (n : RawNumber) → number_faults least most n ≡ [] → (nat_le least (nat_abs n.value) && nat_le (nat_abs n.value) most) ≡ true
+number_between least most n h = absolute n.value (by (is_between least most n.value) (no_fault (not (is_between least most n.value)) n.left why.BadNumber h))
+  where
+    by : (b : Bool) → not b ≡ false → b ≡ true
+    by true e = refl
+    by false e = absurd cc
+
+    absolute : (v : ℤ) → is_between least most v ≡ true → (nat_le least (nat_abs v) && nat_le (nat_abs v) most) ≡ true
+    absolute (pos v) e = e
+    absolute (negsuc v) e = absurd cc
 
 none_at_any : {X : Type 0} (place : X → ℕ) (w : TextWhy) (o : Option X) → fault_at_any place w o ≡ [] → o ≡ None
 none_at_any place w None h = refl
@@ -85,13 +100,11 @@ subs_faultless free t n ps ks l env e h =
 pub first_faultless : (free : ℕ) (ks : List RawBound) (i : ℕ) (k : RawBound) (env now : List Sym) → i < length ks → k ≡ get_or ks i k → now ≡ env → AreFaultless free (drop i ks) env
     → IsFaultlessBound free k now × AreFaultless free (drop (i + 1) ks) env
 first_faultless free ks i k env now lt is same h =
-    let rest = drop (suc i) ks in
-    let e : drop i ks ≡ k ∷ rest = drop-cons ks i k lt ∙ ap (λ s. s ∷ rest) (sym is) in
-    let both = nil_parts (bound_faults_of free k env h.0) (each_faults (map (bound_faults_of free) rest) env h.0) (ap (λ ss. each_faults (map (bound_faults_of free) ss) env h.0) (sym e) ∙ h.1) in
-    let next : drop (i + 1) ks ≡ rest = ap (λ n. drop n ks) (add-one i) in
+    let rest = drop (i + 1) ks in
+    let all = ap (λ ss. each_faults (map (bound_faults_of free) ss) env h.0) (sym (left_cons ks i k lt is)) ∙ h.1 in
+    let both = nil_parts (bound_faults_of free k env h.0) (each_faults (map (bound_faults_of free) rest) env h.0) all in
     let here : IsFaultlessBound free k env = (h.0, both.0, h.2) in
-    let others : AreFaultless free rest env = (h.0, both.1, h.2) in
-    (subst (IsFaultlessBound free k) (sym same) here, subst (λ ss. AreFaultless free ss env) (sym next) others)
+    (subst (IsFaultlessBound free k) (sym same) here, (h.0, both.1, h.2))
 
 -- a subterm has few binders, and a body without faults
 pub body_faultless : (free : ℕ) (k : RawBound) (env now : List Sym) → now ≡ env ++ names_of k.binders → IsFaultlessBound free k env → IsFaultless free k.body now × (length k.binders ≤ 8)
@@ -119,11 +132,7 @@ whole_faultless free t env e h =
 pub first_hyp_faultless : (hs : List RawHyp) (i : ℕ) (h : RawHyp) (env : List Sym) → i < length hs → h ≡ get_or hs i h → hyps_faults (drop i hs) env ≡ []
     → (faults_of 0 h.term env 1 ≡ []) × (hyps_faults (drop (i + 1) hs) (env ++ h.name ∷ []) ≡ [])
 first_hyp_faultless hs i h env lt is f =
-    let rest = drop (suc i) hs in
-    let e : drop i hs ≡ h ∷ rest = drop-cons hs i h lt ∙ ap (λ s. s ∷ rest) (sym is) in
-    let both = nil_parts (faults_of 0 h.term env 1) (hyps_faults rest (env ++ h.name ∷ [])) (ap (λ ss. hyps_faults ss env) (sym e) ∙ f) in
-    let next : drop (i + 1) hs ≡ rest = ap (λ n. drop n hs) (add-one i) in
-    (both.0, ap (λ ss. hyps_faults ss (env ++ h.name ∷ [])) next ∙ both.1)
+    nil_parts (faults_of 0 h.term env 1) (hyps_faults (drop (i + 1) hs) (env ++ h.name ∷ [])) (ap (λ ss. hyps_faults ss env) (sym (left_cons hs i h lt is)) ∙ f)
 
 -- the parts of a sequent without faults: few hypotheses, and terms without faults
 pub sequent_faultless : (s : RawSequent) → sequent_faults s ≡ [] → (length s.hyps ≤ 200) × (hyps_faults s.hyps [] ≡ []) × (faults_of 0 s.concl (hyp_names s.hyps) 1 ≡ [])

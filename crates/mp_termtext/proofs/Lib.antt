@@ -20,3 +20,4 @@ pub mod Steps
 pub mod StringTexts
 pub mod TableFacts
 pub mod ValueSteps
+pub mod Walks

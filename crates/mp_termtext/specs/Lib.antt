@@ -2,6 +2,7 @@ pub mod Faults
 pub mod Grammar
 pub mod Parts
 pub mod Printing
+pub mod Ranges
 pub mod Reading
 pub mod Round
 pub mod Statics

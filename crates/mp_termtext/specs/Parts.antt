@@ -91,6 +91,13 @@ After S A x ts rest = (us : List Word) × S ts us × A x us rest
 abbrev pub StuckAfter : Sign → Stop → Stop
 StuckAfter S SA ts rest = LacksSign S ts rest ⊎ ((us : List Word) × S ts us × SA us rest)
 
+-- a name behind this word, and its place
+abbrev pub IsNameBehind : Keyword → Part RawName
+IsNameBehind k = After (IsWord k) IsNameAt
+
+abbrev pub StuckNameBehind : Keyword → Stop
+StuckNameBehind k = StuckAfter (IsWord k) (Lacks IsNameAt)
+
 -- the part behind its sign where the sign stands, and else this value, for which nothing is read
 abbrev pub Optional : {X : Type 0} → Sign → X → Part X → Part X
 Optional S none A x ts rest = (No S ts × (x ≡ none) × (rest ≡ ts)) ⊎ After S A x ts rest

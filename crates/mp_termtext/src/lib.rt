@@ -10,6 +10,7 @@ mod list;
 mod numbering;
 mod parts;
 mod print;
+mod range;
 mod raw;
 mod reading;
 mod scope;
@@ -27,10 +28,11 @@ pub use lexed::{Lexed, lex_text};
 pub use list::{Beginning, Reader, listed, many, repeated, separated, whole};
 pub use numbering::words;
 pub use parts::{
-    ReadFail, capital, capital_at, capital_variable, keyword, mark, name, name_at, number,
-    number_at, stuck,
+    ReadFail, capital, capital_at, capital_variable, keyword, mark, name, name_at, name_behind,
+    number, number_at, stuck,
 };
 pub use print::{print_sequent, print_term, push_bound_term, push_sequent, push_term};
+pub use range::{check_number, check_written_number};
 pub use raw::{Binder, RawBound, RawHyp, RawName, RawNumber, RawParam, RawSequent, RawTerm};
 pub use reading::{read_sequent, read_term};
 pub use scope::{level_of, push_names};

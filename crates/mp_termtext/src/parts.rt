@@ -1,5 +1,5 @@
-ghost use Rattle.std.specs.Prelude.{◌≡◌, length, MatchOption};
-ghost use Rattle.mp_termtext.specs.Parts.{No, None_of, IsMark, IsWord, IsName, IsCap, IsCapVar, IsNumber, IsNameAt, IsCapAt, IsNumberAt};
+ghost use Rattle.std.specs.Prelude.{◌≡◌, ◌<◌, length, IfOk, MatchOption};
+ghost use Rattle.mp_termtext.specs.Parts.{No, None_of, IsMark, IsWord, IsName, IsCap, IsCapVar, IsNumber, IsNameAt, IsCapAt, IsNumberAt, IsNameBehind, StuckNameBehind, Reads};
 ghost use Rattle.mp_termtext.specs.declared.parts.ReadFail.TheVariants.{Stuck};
 
 use crate::raw::{RawName, RawNumber};
@@ -97,6 +97,20 @@ pub fn name_at(words: &[Word]) -> Option<(RawName, &[Word])>
     match words.split_first() {
         Some((Word::Small { name, .. }, rest)) => Some((RawName { name: *name, left }, rest)),
         _ => None,
+    }
+}
+
+/// Reads this word of the grammar and a name.
+pub fn name_behind(words: &[Word], which: Keyword) -> Result<(RawName, &[Word]), ReadFail>
+    ensures reads { Reads (λ x. (x.0, x.1.now)) (IsNameBehind which) (StuckNameBehind which) words.now result }
+    ensures shorter { IfOk result (λ x. length x.1.now < length words.now) }
+{
+    let Some(at) = keyword(words, which) else {
+        return Err(stuck(words));
+    };
+    match name_at(at) {
+        Some(read) => Ok(read),
+        None => Err(stuck(at)),
     }
 }
 

@@ -1,11 +1,11 @@
 use Rattle.std.proofs.Common.{◌≡◌, ◌++◌, ◌+◌, ◌<◌, ℕ, List, [], ◌∷◌, length, map, drop, get_or, append_assoc, ap, sym, ◌∙◌}
 use Rattle.std.specs.List.{flat_map}
 use Rattle.mp_termtext.proofs.Faultless.{nil_parts}
+use Rattle.mp_termtext.proofs.Walks.{left_cons}
 use Rattle.mp_drill.specs.declared.raw.RawSection.{RawSection}
 use Rattle.mp_drill.specs.declared.schedule.Section.{Section}
 use Rattle.mp_drill.specs.ScheduleStatics.{events_faults}
 use Rattle.mp_drill.specs.ScheduleValues.{event_of, section_of, schedule_of}
-use Rattle.mp_drill.proofs.ScheduleFaults.{left_cons}
 use Rattle.mp_drill.proofs.value.build_schedule.Goals as goal
 
 module _ (ss : List RawSection) (i : ℕ) (s : RawSection) (lt : i < length ss) (is : s ≡ get_or ss i s) where

@@ -9,5 +9,5 @@ use Rattle.mp_scripttext.proofs.statics.check_entry.Goals as goal
 pub returns : goal.returns
 returns c =
     let rules = c.args.theory.now in
-    entry_parts rules c.args.raw.now c.args.held c.check_number-held.result c.in_ok-held.held c.check_shape-held.result c.in_ok-found.found c.check_number-held.ensures c.in_ok-held.ensures c.check_shape-held.ensures
+    entry_parts rules c.args.raw.now c.args.held c.check_written_number-held.result c.in_ok-held.held c.check_shape-held.result c.in_ok-found.found c.check_written_number-held.ensures c.in_ok-held.ensures c.check_shape-held.ensures
     (c.in_ok-found.ensures ∙ ap (λ ss. least_from c.check_shape-held.result (flat_map (step_faults rules) (whole_of ss).steps)) c.as_slice.ensures)

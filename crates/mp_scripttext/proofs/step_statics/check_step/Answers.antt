@@ -1,15 +1,16 @@
 use Rattle.std.proofs.Common.{ap, ◌∙◌}
 use Rattle.std.specs.List.{flat_map}
 use Rattle.mp_termtext.specs.Faults.{least_from}
-use Rattle.mp_scripttext.specs.Statics.{number_faults, rule_faults, rule_named, term_faults}
-use Rattle.mp_scripttext.proofs.FaultWalks.{three_parts}
+use Rattle.mp_termtext.specs.Ranges.{written_number_faults}
+use Rattle.mp_termtext.proofs.FaultSteps.{three_parts}
+use Rattle.mp_scripttext.specs.Statics.{rule_faults, rule_named, term_faults}
 use Rattle.mp_scripttext.proofs.step_statics.check_step.Goals as goal
 
 pub returns : goal.returns
 returns c =
     let rules = c.args.theory.now in
     let s = c.args.raw.now in
-    three_parts c.args.held c.check_number-held.result c.in_ok-held.held c.check_rule.result (number_faults 1 201 s.place) (flat_map term_faults s.given) (rule_faults (rule_named rules s.rule.name) s)
-    c.check_number-held.ensures
-    (c.in_ok-held.ensures ∙ ap (λ gs. least_from c.check_number-held.result (flat_map term_faults gs)) c.as_slice.ensures)
+    three_parts c.args.held c.check_written_number-held.result c.in_ok-held.held c.check_rule.result (written_number_faults 1 201 s.place) (flat_map term_faults s.given) (rule_faults (rule_named rules s.rule.name) s)
+    c.check_written_number-held.ensures
+    (c.in_ok-held.ensures ∙ ap (λ gs. least_from c.check_written_number-held.result (flat_map term_faults gs)) c.as_slice.ensures)
     (c.check_rule.ensures ∙ ap (λ r. least_from c.in_ok-held.held (rule_faults r s)) c.find_rule.ensures)

@@ -1,5 +1,5 @@
+use Rattle.mp_termtext.proofs.FaultSteps.{flat_next}
 use Rattle.mp_scripttext.specs.Statics.{term_faults}
-use Rattle.mp_scripttext.proofs.FaultWalks.{flat_next}
 use Rattle.mp_scripttext.proofs.step_statics.check_terms.Goals as goal
 
 pub loop-raw-preserved : goal.loop-raw-preserved
