@@ -1,4 +1,4 @@
-ghost use Rattle.std.specs.Prelude.{◌≡◌, ◌≤◌, ◌+◌, ◌++◌, ◌∷◌, [], length, replicate, IfOk, OnOk};
+ghost use Rattle.std.specs.Prelude.{◌≡◌, ◌≤◌, ◌+◌, ◌++◌, ◌∷◌, [], length, IfOk, OnOk};
 ghost use Rattle.mp_strategy.specs.declared.tactic.Tac.TheVariants as tac;
 ghost use Rattle.mp_scripttext.specs.Strategies.{strategy_of, whole_of};
 
@@ -14,16 +14,6 @@ fn push_row(tacs: &mut List<Tac>, row: Tac) -> Result<(), NoMemory>
         Ok(()) => Ok(()),
         Err((_, refused)) => Err(refused),
     }
-}
-
-/// Adds so many rows that are still to be written.
-fn push_holes(tacs: &mut List<Tac>, count: usize) -> Result<(), NoMemory>
-    ensures { OnOk result (tacs.new ≡ tacs.old ++ replicate count tac.Id) }
-{
-    for _ in 0..count {
-        push_row(tacs, Tac::Id)?;
-    }
-    Ok(())
 }
 
 /// Adds the rows of a strategy whose first step has this number, and answers the number of the next step.
@@ -47,8 +37,7 @@ fn push_strategy(tacs: &mut List<Tac>, raw: &RawStrategy, step: u32) -> Result<u
     }
 }
 
-// In preorder the rows of all `then` stand before those of the first strategy. Each is written once it is known where
-// its second part begins, the last one first.
+// The last `then` stands above the others. Its row is written once it is known where its second part begins.
 #[cycle(rows)]
 fn push_chain(tacs: &mut List<Tac>, raws: &[RawStrategy], step: u32) -> Result<u32, NoMemory>
     requires room { length tacs.old + (whole_of raws.now).nodes ≤ 4096 }
@@ -56,20 +45,19 @@ fn push_chain(tacs: &mut List<Tac>, raws: &[RawStrategy], step: u32) -> Result<u
     ensures rows { OnOk result (tacs.new ≡ tacs.old ++ (whole_of raws.now).rows (length tacs.old) step) }
     ensures next { IfOk result (λ next. next ≡ step + length (whole_of raws.now).steps) }
 {
-    let Some((first, more)) = raws.split_first() else {
+    let Some((last, front)) = raws.split_last() else {
         push_row(tacs, Tac::Id)?;
         return Ok(step);
     };
-    push_holes(tacs, more.len())?;
-    let mut hole = tacs.len();
-    let mut next = push_strategy(tacs, first, step)?;
-    for raw in more {
-        hole -= 1;
-        let second = tacs.len();
-        *tacs.item_mut(hole) = Tac::Then(TacId(hole as u32 + 1), TacId(second as u32));
-        next = push_strategy(tacs, raw, next)?;
+    if front.is_empty() {
+        return push_strategy(tacs, last, step);
     }
-    Ok(next)
+    let at = tacs.len();
+    push_row(tacs, Tac::Id)?;
+    let next = push_chain(tacs, front, step)?;
+    let second = tacs.len();
+    *tacs.item_mut(at) = Tac::Then(TacId(at as u32 + 1), TacId(second as u32));
+    push_strategy(tacs, last, next)
 }
 
 /// The table of strategies with `then` between each two, numbered in preorder.
