@@ -100,7 +100,7 @@ rule_parts r concl cs ds premises held a b c d e all c-is d-is same f g h k l =
 
 -- ## Rules
 
-among_has : (names : List Sym) (name : Sym) → is_among names name ≡ has names name
+pub among_has : (names : List Sym) (name : Sym) → is_among names name ≡ has names name
 among_has [] name = refl
 among_has (x ∷ xs) name = ap (λ b. nat_eq x.0 name.0 || b) (among_has xs name)
 

@@ -1,10 +1,15 @@
 -- The uses of a rule, one after the other.
-use Rattle.std.proofs.Common.{◌≡◌, ◌++◌, ◌+◌, ◌<◌, ◌≤◌, ℕ, suc, List, [], ◌∷◌, Option, Bool, true, false, nat_eq, ◌&&◌, ap, sym, refl, ◌∙◌, map, drop, length, get_or, drop-cons, add-one, append_assoc, rules}
-use Rattle.std.specs.List.{flat_map}
+use Rattle.std.proofs.Common.{◌≡◌, ◌++◌, ◌+◌, ◌<◌, ◌≤◌, ℕ, suc, List, [], ◌∷◌, Option, None, Some, Bool, true, false, nat_eq, ◌&&◌, ◌||◌, if◌then◌else◌, is_some, slice_get, ap, sym, refl, ◌∙◌, map, drop, length, get_or, drop-cons, add-one, append_assoc, rules}
+use Rattle.std.specs.List.{find, flat_map}
+use Rattle.std.specs.Option.{option_and_then}
 use Rattle.std.proofs.Math.ListN.{drop_of_length-le}
 use Rattle.std.proofs.lemmas.Simd.{map-map}
+use Rattle.std.proofs.lemmas.List.{map_push}
 use Rattle.std.proofs.lemmas.List.Folds.{flat_map-map}
 use Rattle.mp_logic.specs.declared.sym.Sym.{Sym}
+use Rattle.mp_names.specs.Sets.{is_met, place_of, with_met}
+use Rattle.mp_names.proofs.Meeting.{eq_comm}
+use Rattle.mp_names.proofs.Places.{found_at}
 use Rattle.mp_schema.specs.Faults.{same_names}
 use Rattle.mp_termtext.specs.declared.fault.Fault.{Fault}
 use Rattle.mp_termtext.specs.Faults.{least_from}
@@ -20,7 +25,7 @@ use Rattle.mp_theorytext.specs.declared.raw.RawSchema.{RawSchema}
 use Rattle.mp_theorytext.specs.declared.raw.RawRule.{RawRule}
 use Rattle.mp_theorytext.specs.declared.uses.First.{First}
 use Rattle.mp_theorytext.specs.Scopes.{contexts_behind}
-use Rattle.mp_theorytext.specs.Uses.{Use, Shown, shown, argument_of, uses_in, uses_in_bound, uses_in_item, uses_in_items, uses_in_schema, uses_in_rule, use_faults, uses_faults, firsts_with, firsts_after}
+use Rattle.mp_theorytext.specs.Uses.{Use, Shown, shown, argument_of, uses_in, uses_in_bound, uses_in_item, uses_in_items, uses_in_schema, uses_in_rule, find_first, use_faults, uses_faults, firsts_with, firsts_after}
 
 -- lists of other lengths aren't the same
 pub other_lengths : (xs ys : List Sym) → (length xs ≡ length ys → ⊥) → false ≡ same_names xs ys
@@ -32,6 +37,36 @@ other_lengths (x ∷ xs) (y ∷ ys) h = by (nat_eq x.0 y.0) (other_lengths xs ys
     by : (b : Bool) → false ≡ same_names xs ys → false ≡ (b && same_names xs ys)
     by true e = e
     by false e = refl
+
+-- ## First uses by their names
+
+abbrev pub numbers_of : List First → List ℕ
+numbers_of firsts = map (λ first. first.name.0) firsts
+
+is_found : (firsts : List First) (name : Sym) → find_first firsts name ≡ find (λ first. nat_eq first.name.0 name.0) firsts
+is_found [] name = refl
+is_found (f ∷ fs) name = ap (λ o. if nat_eq f.name.0 name.0 then Some f else o) (is_found fs name)
+
+-- the first use of a name stands at the name's place
+pub first_at : (firsts : List First) (met : List ℕ) (name : Sym) (place : Option ℕ) → met ≡ numbers_of firsts → place ≡ place_of met name.0 → find_first firsts name ≡ option_and_then (slice_get firsts) place
+first_at firsts met name place all is = is_found firsts name ∙ found_at (λ first. first.name.0) firsts name.0 ∙ ap (λ ns. option_and_then (slice_get firsts) (place_of ns name.0)) (sym all) ∙ ap (option_and_then (slice_get firsts)) (sym is)
+
+-- a name that has a first use was met
+has_first : (firsts : List First) (name : Sym) → is_met (numbers_of firsts) name.0 ≡ is_some (find_first firsts name)
+has_first [] name = refl
+has_first (f ∷ fs) name = ap (λ b. b || is_met (numbers_of fs) name.0) (eq_comm name.0 f.name.0) ∙ by (nat_eq f.name.0 name.0) (has_first fs name)
+  where
+    by : (b : Bool) → is_met (numbers_of fs) name.0 ≡ is_some (find_first fs name) → (b || is_met (numbers_of fs) name.0) ≡ is_some (if b then Some f else find_first fs name)
+    by true e = refl
+    by false e = e
+
+-- a name without one goes last
+pub first_met : (firsts : List First) (first : First) → find_first firsts first.name ≡ None → with_met (numbers_of firsts) first.name.0 ≡ numbers_of (firsts ++ first ∷ [])
+first_met firsts first none =
+    let met = numbers_of firsts in
+    ap (λ b. if b then met else met ++ first.name.0 ∷ []) (has_first firsts first.name ∙ ap (λ o. is_some o) none) ∙ sym (map_push (λ first. first.name.0) firsts first)
+
+-- ## Uses of patterns
 
 pub uses_in-Var : (n : Sym) (l : ℕ) (known : List Sym) (final : Bool) → uses_in (raw.Var n l) known final ≡ []
 uses_in-Var n l known final = search (rules, the_lemmas)

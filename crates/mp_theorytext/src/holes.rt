@@ -1,14 +1,16 @@
-ghost use Rattle.std.specs.Prelude.{◌≡◌, ◌++◌, OnOk, map};
+ghost use Rattle.std.specs.Prelude.{◌≡◌, ◌++◌, IfOk, OnOk, map};
 ghost use Rattle.std.specs.List.{flat_map};
+ghost use Rattle.mp_names.specs.Sets.{Met};
 ghost use Rattle.mp_termtext.specs.Faults.{least_from};
 ghost use Rattle.mp_theorytext.specs.Scopes.{names_in};
 ghost use Rattle.mp_theorytext.specs.Uses.{hole_faults, holes_in_param, raw_holes, raw_bound_holes, raw_item_holes, raw_schema_holes};
 
 use crate::raw::{RawItem, RawParamPat, RawPattern, RawPatternBound, RawSchema};
-use crate::scope::has_raw_name;
 use mp_logic::{List, NoMemory};
+use mp_names::NameSet;
 use mp_schema::ParamPat;
-use mp_termtext::{Fault, RawName, TextWhy, behind, sooner_of};
+use mp_termtext::{Fault, RawName, TextWhy, sooner_of};
+use std::alloc::Global;
 
 /// Appends the holes of schemata, in the order of the text.
 pub(crate) fn gather_schemata(raws: &[RawSchema], holes: &mut List<RawName>) -> Result<(), NoMemory>
@@ -91,20 +93,32 @@ fn gather_params(params: &[RawParamPat], holes: &mut List<RawName>) -> Result<()
     Ok(())
 }
 
-/// The soonest of the fault that is held and those of holes that aren't among the known ones. Behind a fault that
-/// is held no name is looked for.
+/// The names of these holes.
+fn names_of(alloc: Global, holes: &[RawName]) -> Result<NameSet, NoMemory>
+    ensures { IfOk result (λ names. Met names (names_in holes.now)) }
+{
+    let mut names = NameSet::new(alloc);
+    for hole in holes {
+        names.meet(hole.name)?;
+    }
+    Ok(names)
+}
+
+/// The soonest of the fault that is held and those of holes that aren't among the known ones.
 pub(crate) fn check_holes(
+    alloc: Global,
     held: Option<Fault>,
     known: &[RawName],
     holes: &[RawName],
-) -> Option<Fault>
-    ensures { result ≡ least_from held (hole_faults (names_in known.now) holes.now) }
+) -> Result<Option<Fault>, NoMemory>
+    ensures { IfOk result (λ found. found ≡ least_from held (hole_faults (names_in known.now) holes.now)) }
 {
+    let names = names_of(alloc, known)?;
     let mut held = held;
     for hole in holes {
-        if !behind(held, hole.left) && !has_raw_name(known, hole.name) {
+        if names.place(hole.name).is_none() {
             held = sooner_of(held, hole.left, TextWhy::UnboundParam);
         }
     }
-    held
+    Ok(held)
 }

@@ -13,7 +13,7 @@ use crate::nodes::{check_argument_nodes, check_nodes};
 use crate::raw::{RawItem, RawRule, RawSchema};
 use crate::scope::has_name;
 use crate::size::schema_size;
-use crate::uses::{First, Place, check_argument_uses, check_use, check_uses};
+use crate::uses::{Firsts, Place, check_argument_uses, check_use, check_uses};
 use mp_logic::{List, NoMemory, Sym};
 use mp_names::NameSet;
 use mp_termtext::{Fault, RawName, TextWhy, behind, sooner_of};
@@ -251,7 +251,7 @@ fn check_item_uses(
     raw: &RawItem,
     known: &[Sym],
     in_conclusion: bool,
-    firsts: &mut List<First>,
+    firsts: &mut Firsts,
     held: Option<Fault>,
 ) -> Result<Option<Fault>, NoMemory>
     ensures fault { IfOk result (λ found. found ≡ least_from held (uses_faults firsts.old (uses_in_item raw.now known.now in_conclusion))) }
@@ -293,7 +293,7 @@ fn check_schema_uses(
     alloc: Global,
     raw: &RawSchema,
     in_conclusion: bool,
-    firsts: &mut List<First>,
+    firsts: &mut Firsts,
     held: Option<Fault>,
 ) -> Result<Option<Fault>, NoMemory>
     ensures fault { IfOk result (λ found. found ≡ least_from held (uses_faults firsts.old (uses_in_schema in_conclusion raw.now))) }
@@ -324,7 +324,7 @@ fn check_rule_uses(
 ) -> Result<Option<Fault>, NoMemory>
     ensures { IfOk result (λ found. found ≡ least_from held (uses_faults [] (uses_in_rule raw.now))) }
 {
-    let mut firsts = List::new(alloc);
+    let mut firsts = Firsts::new(alloc);
     let mut held = held;
     for premise in raw.premises.as_slice() {
         held = check_schema_uses(alloc, premise, false, &mut firsts, held)?;
@@ -345,7 +345,8 @@ fn check_rule_holes(
     gather_schema(&raw.concl, &mut known)?;
     let mut asked = List::new(alloc);
     gather_schemata(raw.premises.as_slice(), &mut asked)?;
-    Ok(check_holes(held, known.as_slice(), asked.as_slice()))
+    let found = check_holes(alloc, held, known.as_slice(), asked.as_slice())?;
+    Ok(found)
 }
 
 fn check_premise_count(held: Option<Fault>, premises: &List<RawSchema>) -> Option<Fault>

@@ -1,4 +1,4 @@
-ghost use Rattle.std.specs.Prelude.{◌≡◌, ◌++◌, [], length, map, not, OnOk, IfOk, if◌then◌else◌};
+ghost use Rattle.std.specs.Prelude.{◌≡◌, ◌++◌, ◌∷◌, [], length, map, not, None, OnOk, IfOk, if◌then◌else◌};
 ghost use Rattle.std.specs.List.{flat_map};
 ghost use Rattle.std.specs.Option.{option_copied};
 ghost use Rattle.mp_schema.specs.Conditions.{has};
@@ -13,8 +13,10 @@ use crate::raw::{RawPattern, RawPatternBound};
 use crate::scope::{has_name, has_raw_name};
 use crate::value::copy_names;
 use mp_logic::{List, NoMemory, Sym};
+use mp_names::NameSet;
 use mp_termtext::{Fault, RawName, TextWhy, behind, sooner_of};
 use std::alloc::Global;
+use std::marker::Model;
 
 /// The most contexts, and the most arguments, in one list.
 const MOST: usize = 8;
@@ -30,6 +32,77 @@ pub(crate) struct First {
     pub ctxs: List<Sym>,
     /// The number of its arguments.
     pub arity: u64,
+}
+
+/// The first uses of names in a rule, each found by its name. Contracts see the list of the uses, in the order of the
+/// text.
+#[derive(Drop)]
+pub(crate) struct Firsts {
+    names: NameSet,
+    uses: List<First>,
+}
+
+impl Model for Firsts {
+    ghost use Rattle.std.specs.Prelude.{◌≡◌, List, map};
+    ghost use Rattle.mp_theorytext.specs.declared.uses.First.{First};
+
+    ghost Value = { List First };
+
+    ghost view = { λ firsts. firsts.uses };
+
+    ghost invariant = { λ firsts. firsts.names ≡ map (λ first. first.name.0) firsts.uses };
+}
+
+impl Firsts {
+    /// No name was used.
+    pub fn new(alloc: Global) -> Firsts
+        ensures { result ≡ [] }
+    {
+        Firsts {
+            names: NameSet::new(alloc),
+            uses: List::new(alloc),
+        }
+    }
+
+    /// The first use of this name.
+    fn find(&self, name: Sym) -> Option<&First>
+        ensures { option_copied result ≡ find_first self.now name }
+    {
+        let at = self.names.place(name)?;
+        self.uses.get(at as u64)
+    }
+
+    // Where there is no memory for the name, the use goes too, so that each use has its name.
+    fn push(&mut self, first: First) -> Result<(), NoMemory>
+        requires { find_first self.old first.name ≡ None }
+        ensures { OnOk result (self.new ≡ self.old ++ first ∷ []) }
+    {
+        let name = first.name;
+        if let Err((_, refused)) = self.uses.push(first) {
+            return Err(refused);
+        }
+        if let Err(refused) = self.names.meet(name) {
+            self.uses.pop();
+            return Err(refused);
+        }
+        Ok(())
+    }
+
+    /// Keeps the use where it is the first one of its name.
+    fn keep(&mut self, alloc: Global, place: Place<'_>) -> Result<(), NoMemory>
+        ensures { OnOk result ((known : _) → (final : _) → self.new ≡ firsts_with self.old (use_at place.entry known final)) }
+    {
+        if self.find(place.name).is_some() {
+            return Ok(());
+        }
+        let ctxs = copy_names(alloc, place.ctxs)?;
+        self.push(First {
+            is_context: place.is_context,
+            name: place.name,
+            ctxs,
+            arity: place.args.len() as u64,
+        })
+    }
 }
 
 /// A place where a second-order variable stands, or a context as an item.
@@ -147,17 +220,6 @@ fn check_counts(held: Option<Fault>, ctxs: &[RawName], args: &[RawPattern]) -> O
     held
 }
 
-fn find(firsts: &List<First>, name: Sym) -> Option<&First>
-    ensures { option_copied result ≡ find_first firsts.now name }
-{
-    for first in firsts.as_slice() {
-        if first.name.0 == name.0 {
-            return Some(first);
-        }
-    }
-    None
-}
-
 fn are_same_names(names: &[Sym], raws: &[RawName]) -> bool
     ensures { result ≡ same_names names.now (names_in raws.now) }
 {
@@ -172,10 +234,10 @@ fn are_same_names(names: &[Sym], raws: &[RawName]) -> bool
     true
 }
 
-fn check_first(held: Option<Fault>, firsts: &List<First>, place: Place<'_>) -> Option<Fault>
+fn check_first(held: Option<Fault>, firsts: &Firsts, place: Place<'_>) -> Option<Fault>
     ensures { (known : _) → (final : _) → result ≡ least_from held (unless_like (find_first firsts.now place.entry.name) (use_at place.entry known final)) }
 {
-    let Some(first) = find(firsts, place.name) else {
+    let Some(first) = firsts.find(place.name) else {
         return held;
     };
     if first.is_context == place.is_context
@@ -188,26 +250,6 @@ fn check_first(held: Option<Fault>, firsts: &List<First>, place: Place<'_>) -> O
     }
 }
 
-/// Keeps the use where it is the first one of its name.
-fn keep_first(alloc: Global, firsts: &mut List<First>, place: Place<'_>) -> Result<(), NoMemory>
-    ensures { OnOk result ((known : _) → (final : _) → firsts.new ≡ firsts_with firsts.old (use_at place.entry known final)) }
-{
-    if find(firsts, place.name).is_some() {
-        return Ok(());
-    }
-    let ctxs = copy_names(alloc, place.ctxs)?;
-    let first = First {
-        is_context: place.is_context,
-        name: place.name,
-        ctxs,
-        arity: place.args.len() as u64,
-    };
-    match firsts.push(first) {
-        Ok(()) => Ok(()),
-        Err((_, refused)) => Err(refused),
-    }
-}
-
 /// The soonest of the fault that is held and those of a use, where `known` are the contexts before it and
 /// `firsts` the first uses of names before it.
 pub(crate) fn check_use(
@@ -215,7 +257,7 @@ pub(crate) fn check_use(
     place: Place<'_>,
     known: &[Sym],
     in_conclusion: bool,
-    firsts: &mut List<First>,
+    firsts: &mut Firsts,
     held: Option<Fault>,
 ) -> Result<Option<Fault>, NoMemory>
     ensures fault { IfOk result (λ found. found ≡ least_from held (use_faults firsts.old (use_at place.entry known.now in_conclusion))) }
@@ -225,7 +267,7 @@ pub(crate) fn check_use(
     let held = check_list(held, known, place.ctxs);
     let held = check_arguments(held, in_conclusion, place.args);
     let held = check_first(held, firsts, place);
-    keep_first(alloc, firsts, place)?;
+    firsts.keep(alloc, place)?;
     Ok(held)
 }
 
@@ -236,7 +278,7 @@ pub(crate) fn check_uses(
     raw: &RawPattern,
     known: &[Sym],
     in_conclusion: bool,
-    firsts: &mut List<First>,
+    firsts: &mut Firsts,
     held: Option<Fault>,
 ) -> Result<Option<Fault>, NoMemory>
     ensures fault { IfOk result (λ found. found ≡ least_from held (uses_faults firsts.old (uses_in raw.now known.now in_conclusion))) }
@@ -280,7 +322,7 @@ fn check_bound_uses(
     subs: &[RawPatternBound],
     known: &[Sym],
     in_conclusion: bool,
-    firsts: &mut List<First>,
+    firsts: &mut Firsts,
     held: Option<Fault>,
 ) -> Result<Option<Fault>, NoMemory>
     ensures fault { IfOk result (λ found. found ≡ least_from held (uses_faults firsts.old (flat_map (λ us. us known.now in_conclusion) (map uses_in_bound subs.now)))) }
@@ -300,7 +342,7 @@ pub(crate) fn check_argument_uses(
     args: &[RawPattern],
     known: &[Sym],
     in_conclusion: bool,
-    firsts: &mut List<First>,
+    firsts: &mut Firsts,
     held: Option<Fault>,
 ) -> Result<Option<Fault>, NoMemory>
     ensures fault { IfOk result (λ found. found ≡ least_from held (uses_faults firsts.old (flat_map (λ a. a.uses known.now in_conclusion) (map shown args.now)))) }
