@@ -1,11 +1,11 @@
 -- A schedule's words have one reading, or are stuck at one place, and not both.
 use Rattle.std.proofs.Common.{◌≡◌, List, true, ◌||◌, inl, inr, refl, ap, sym, subst, ◌∙◌, true≢false}
-use Rattle.mp_termtext.specs.declared.word.Word.{Word}
-use Rattle.mp_termtext.specs.declared.word.Keyword.{Keyword}
-use Rattle.mp_termtext.specs.declared.word.Keyword.TheVariants as keyword
-use Rattle.mp_termtext.specs.declared.raw.RawNumber.{RawNumber}
-use Rattle.mp_termtext.specs.Parts.{IsWord, IsNumberAt, IsNameBehind, StuckNameBehind, Lacks, Both, StuckBoth, After, StuckAfter, StuckOptional, IfThere, Repeated, StuckRepeated, HasOne, AreApart, HasOneStop, OneReading}
-use Rattle.mp_termtext.proofs.Combine.{one_word, one_name_behind, one_number_at, one_both, one_after, one_if_there, one_repeated, one_many}
+use Rattle.mp_words.specs.declared.word.Word.{Word}
+use Rattle.mp_words.specs.declared.word.Keyword.{Keyword}
+use Rattle.mp_words.specs.declared.word.Keyword.TheVariants as keyword
+use Rattle.mp_words.specs.declared.raw.RawNumber.{RawNumber}
+use Rattle.mp_words.specs.Parts.{IsWord, IsNumberAt, IsNameBehind, StuckNameBehind, Lacks, Both, StuckBoth, After, StuckAfter, StuckOptional, IfThere, Repeated, StuckRepeated, HasOne, AreApart, HasOneStop, OneReading}
+use Rattle.mp_words.proofs.Combine.{one_word, one_name_behind, one_number_at, one_both, one_after, one_if_there, one_repeated, one_many}
 use Rattle.mp_drill.specs.declared.raw.RawEvent.{RawEvent}
 use Rattle.mp_drill.specs.declared.raw.RawEvent.TheVariants as event
 use Rattle.mp_drill.specs.ScheduleGrammar.{has_worker, is_reissue, is_event_word, begins_event, IsSend, IsEvent, IsWorkerWord, StuckEvent, IsSection, StuckSection, IsSchedule, StuckSchedule}

@@ -2,12 +2,12 @@
 --   schedule = section*     section = "goal" Small event*
 --   event = "claim" Num | "send" Num Num? | "again" Num | "die" Num | "lose" Num | "reissue"
 use Rattle.std.specs.Prelude.{◌≡◌, ◌⊎◌, List, ◌∷◌, Option, Some, Bool, true, false, ◌||◌}
-use Rattle.mp_termtext.specs.declared.word.Word.{Word}
-use Rattle.mp_termtext.specs.declared.word.Word.TheVariants as word
-use Rattle.mp_termtext.specs.declared.word.Keyword.{Keyword}
-use Rattle.mp_termtext.specs.declared.word.Keyword.TheVariants as keyword
-use Rattle.mp_termtext.specs.declared.raw.RawNumber.{RawNumber}
-use Rattle.mp_termtext.specs.Parts.{IsWord, IsNumberAt, IsNameBehind, StuckNameBehind, Lacks, Both, StuckBoth, After, StuckOptional, IfThere, Repeated, StuckRepeated, Many, StuckMany}
+use Rattle.mp_words.specs.declared.word.Word.{Word}
+use Rattle.mp_words.specs.declared.word.Word.TheVariants as word
+use Rattle.mp_words.specs.declared.word.Keyword.{Keyword}
+use Rattle.mp_words.specs.declared.word.Keyword.TheVariants as keyword
+use Rattle.mp_words.specs.declared.raw.RawNumber.{RawNumber}
+use Rattle.mp_words.specs.Parts.{IsWord, IsNumberAt, IsNameBehind, StuckNameBehind, Lacks, Both, StuckBoth, After, StuckOptional, IfThere, Repeated, StuckRepeated, Many, StuckMany}
 use Rattle.mp_drill.specs.declared.raw.RawEvent.{RawEvent}
 use Rattle.mp_drill.specs.declared.raw.RawEvent.TheVariants as event
 use Rattle.mp_drill.specs.declared.raw.RawSection.{RawSection}

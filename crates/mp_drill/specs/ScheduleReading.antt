@@ -1,10 +1,10 @@
 -- What the reader of schedules answers of a text.
 use Rattle.std.specs.Prelude.{ℕ, List, Result}
 use Rattle.mp_logic.specs.declared.sym.Sym.{Sym}
-use Rattle.mp_termtext.specs.declared.fail.TextErr.{TextErr}
-use Rattle.mp_termtext.specs.declared.fail.TextFail.{TextFail}
-use Rattle.mp_termtext.specs.Parts.{OneReading}
-use Rattle.mp_termtext.specs.Texts.{IsText, IsFaulty, OneText, ReadsText}
+use Rattle.mp_words.specs.declared.fail.TextErr.{TextErr}
+use Rattle.mp_words.specs.declared.fail.TextFail.{TextFail}
+use Rattle.mp_words.specs.Parts.{OneReading}
+use Rattle.mp_words.specs.Texts.{IsText, IsFaulty, OneText, ReadsText}
 use Rattle.mp_drill.specs.declared.schedule.Section.{Section}
 use Rattle.mp_drill.specs.ScheduleGrammar.{IsSchedule, StuckSchedule}
 use Rattle.mp_drill.specs.ScheduleStatics.{schedule_faults}

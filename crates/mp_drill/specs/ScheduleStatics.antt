@@ -3,12 +3,12 @@ use Rattle.std.specs.Prelude.{◌++◌, List, [], ◌∷◌, Option, not}
 use Rattle.std.specs.List.{flat_map}
 use Rattle.mp_logic.specs.declared.sym.Sym.{Sym}
 use Rattle.mp_names.specs.Sets.{is_among}
-use Rattle.mp_termtext.specs.declared.fail.TextWhy.TheVariants as why
-use Rattle.mp_termtext.specs.declared.fault.Fault.{Fault}
-use Rattle.mp_termtext.specs.declared.raw.RawName.{RawName}
-use Rattle.mp_termtext.specs.declared.raw.RawNumber.{RawNumber}
-use Rattle.mp_termtext.specs.Faults.{fault_if}
-use Rattle.mp_termtext.specs.Ranges.{number_faults, written_number_faults}
+use Rattle.mp_words.specs.declared.fail.TextWhy.TheVariants as why
+use Rattle.mp_words.specs.declared.fault.Fault.{Fault}
+use Rattle.mp_words.specs.declared.raw.RawName.{RawName}
+use Rattle.mp_words.specs.declared.raw.RawNumber.{RawNumber}
+use Rattle.mp_words.specs.Faults.{fault_if}
+use Rattle.mp_words.specs.Ranges.{number_faults, written_number_faults}
 use Rattle.mp_drill.specs.declared.raw.RawEvent.{RawEvent}
 use Rattle.mp_drill.specs.declared.raw.RawEvent.TheVariants as event
 use Rattle.mp_drill.specs.declared.raw.RawSection.{RawSection}

@@ -1,6 +1,6 @@
 -- What events and sections stand for that are written.
 use Rattle.std.specs.Prelude.{ℕ, nat_abs, List, [], ◌∷◌, map, Option, None, Some, IsTrue, ⊤}
-use Rattle.mp_termtext.specs.declared.raw.RawNumber.{RawNumber}
+use Rattle.mp_words.specs.declared.raw.RawNumber.{RawNumber}
 use Rattle.mp_drill.specs.declared.schedule.Event.{Event}
 use Rattle.mp_drill.specs.declared.schedule.Event.TheVariants as drill
 use Rattle.mp_drill.specs.declared.schedule.Section.{Section}

@@ -1,5 +1,5 @@
 use mp_logic::List;
-use mp_termtext::{RawName, RawNumber};
+use mp_words::{RawName, RawNumber};
 
 /// An event as it is written.
 #[derive(Clone, Copy, Debug, PartialEq, Eq)]

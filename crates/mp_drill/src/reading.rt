@@ -9,7 +9,7 @@ use crate::syntax::parse_schedule;
 use crate::value::build_schedule;
 use mp_logic::{List, Sym};
 use mp_names::Names;
-use mp_termtext::{TextFail, lex_text};
+use mp_words::{TextFail, lex_text};
 use std::alloc::Global;
 
 /// Reads a schedule that is all of the text, for these goals: its sections, in the order of the text, each with events in

@@ -1,7 +1,7 @@
 use crate::{Event, Section, read_schedule};
 use mp_logic::{List, Sym};
 use mp_names::Names;
-use mp_termtext::{TextErr, TextFail, TextWhy};
+use mp_words::{TextErr, TextFail, TextWhy};
 use std::alloc::Global;
 use std::test::Fail;
 

@@ -1,13 +1,13 @@
 ghost use Rattle.std.specs.Prelude.{◌≡◌, ◌++◌, List, IfOk, OnOk};
 ghost use Rattle.mp_logic.specs.declared.sym.Sym.{Sym};
 ghost use Rattle.mp_names.specs.Sets.{Met, with_met};
-ghost use Rattle.mp_termtext.specs.Faults.{least, least_from};
+ghost use Rattle.mp_words.specs.Faults.{least, least_from};
 ghost use Rattle.mp_drill.specs.ScheduleStatics.{event_faults, events_faults, name_faults, schedule_faults};
 
 use crate::raw::{RawEvent, RawSection};
 use mp_logic::{List, NoMemory, Sym};
 use mp_names::NameSet;
-use mp_termtext::{Fault, RawName, TextWhy, check_number, check_written_number, sooner_of};
+use mp_words::{Fault, RawName, TextWhy, check_number, check_written_number, sooner_of};
 use std::alloc::Global;
 
 /// The greatest worker.
@@ -17,7 +17,7 @@ const LAST_WORKER: u32 = 64;
 const MOST_UNITS: u32 = 1_000_000;
 
 /// The soonest of the fault that is held and those of an event.
-#[tactic(auto, using(mp_termtext::proofs::Soonest::least_from_append))]
+#[tactic(auto, using(mp_words::proofs::Soonest::least_from_append))]
 fn check_event(held: Option<Fault>, raw: &RawEvent) -> Option<Fault>
     ensures { result ≡ least_from held (event_faults raw.now) }
 {

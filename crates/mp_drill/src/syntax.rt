@@ -1,10 +1,10 @@
 ghost use Rattle.std.specs.Prelude.{◌<◌, ◌≤◌, [], length, IfOk};
-ghost use Rattle.mp_termtext.specs.Parts.{IsNumberAt, IfThere, Lacks, Reads};
+ghost use Rattle.mp_words.specs.Parts.{IsNumberAt, IfThere, Lacks, Reads};
 ghost use Rattle.mp_drill.specs.ScheduleGrammar.{begins_event, is_event_word, IsSend, IsEvent, StuckEvent, IsSection, StuckSection, IsSchedule, StuckSchedule};
 
 use crate::raw::{RawEvent, RawSection};
 use mp_logic::List;
-use mp_termtext::{
+use mp_words::{
     Beginning, Keyword, RawNumber, ReadFail, Reader, Word, keyword, many, name_behind, number_at,
     repeated, stuck,
 };

@@ -1,14 +1,14 @@
 ghost use Rattle.std.specs.Prelude.{◌≡◌, [], true, map, nat_abs, IfOk, IsTrue};
 ghost use Rattle.std.specs.List.{flat_map};
 ghost use Rattle.mp_drill.specs.Ranges.{is_in_range, are_in_range};
-ghost use Rattle.mp_termtext.specs.Ranges.{is_between};
+ghost use Rattle.mp_words.specs.Ranges.{is_between};
 ghost use Rattle.mp_drill.specs.ScheduleStatics.{units_faults, event_faults, events_faults};
 ghost use Rattle.mp_drill.specs.ScheduleValues.{units_of, event_of, schedule_of, EachInRange};
 
 use crate::raw::{RawEvent, RawSection};
 use crate::schedule::{Event, Section};
 use mp_logic::{List, NoMemory};
-use mp_termtext::RawNumber;
+use mp_words::RawNumber;
 use std::alloc::Global;
 
 /// The units of a send that doesn't say them.

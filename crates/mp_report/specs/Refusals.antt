@@ -1,9 +1,9 @@
 -- The line that is printed of a file that is refused.
 use Rattle.std.specs.Prelude.{ℕ, ◌++◌, List, codes}
 use Rattle.std.specs.Fmt.{decimal}
-use Rattle.mp_termtext.specs.declared.fail.TextErr.{TextErr}
-use Rattle.mp_termtext.specs.declared.fail.TextWhy.{TextWhy}
-use Rattle.mp_termtext.specs.declared.fail.TextWhy.TheVariants as why
+use Rattle.mp_words.specs.declared.fail.TextErr.{TextErr}
+use Rattle.mp_words.specs.declared.fail.TextWhy.{TextWhy}
+use Rattle.mp_words.specs.declared.fail.TextWhy.TheVariants as why
 use Rattle.mp_report.specs.declared.refusal.FileKind.{FileKind}
 use Rattle.mp_report.specs.declared.refusal.FileKind.TheVariants as file
 

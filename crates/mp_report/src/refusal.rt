@@ -3,7 +3,8 @@ ghost use Rattle.mp_report.specs.Refusals.{file_text, why_text};
 ghost use Rattle.mp_report.specs.Refusals.{refusal_text as refusal_text_of};
 
 use mp_logic::{List, NoMemory, Text};
-use mp_termtext::{TextErr, TextWhy, push_bytes, push_decimal};
+use mp_termtext::{push_bytes, push_decimal};
+use mp_words::{TextErr, TextWhy};
 use std::alloc::Global;
 
 /// What a file is read as.

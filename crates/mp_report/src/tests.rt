@@ -1,5 +1,5 @@
 use crate::{FileKind, refusal_text};
-use mp_termtext::{TextErr, TextWhy};
+use mp_words::{TextErr, TextWhy};
 
 #[test]
 fn a_refusal_is_a_line(rt: HostRuntime) {

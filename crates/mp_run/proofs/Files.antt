@@ -1,12 +1,12 @@
 -- How the readings of the files, one after the other, make the answer.
 use Rattle.std.proofs.Common.{◌≡◌, ℕ, ◌≤◌, length, inl, inr, List, Option, Some, None, Result, Ok, Err, refl, sym, subst}
-use Rattle.mp_termtext.specs.declared.fail.TextErr.{TextErr}
-use Rattle.mp_termtext.specs.declared.fail.TextFail.{TextFail}
+use Rattle.mp_words.specs.declared.fail.TextErr.{TextErr}
+use Rattle.mp_words.specs.declared.fail.TextFail.{TextFail}
 use Rattle.mp_report.specs.declared.refusal.FileKind.{FileKind}
 use Rattle.mp_run.specs.declared.stop.Stop.{Stop}
 use Rattle.mp_run.specs.declared.stop.Stop.TheVariants as stop
 use Rattle.mp_run.specs.Answers.{Answer, Refusal, Names, Reading, FileThen}
-use Rattle.mp_termtext.specs.declared.fail.TextFail.TheVariants as fail
+use Rattle.mp_words.specs.declared.fail.TextFail.TheVariants as fail
 use Rattle.mp_run.specs.declared.loading.Loaded.{Loaded}
 use Rattle.mp_run.specs.Loads.{LoadsSo}
 use Rattle.mp_run.specs.Lines.{limit_of}

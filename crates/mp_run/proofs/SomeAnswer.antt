@@ -3,14 +3,14 @@ use Rattle.std.proofs.Common.{◌≡◌, ◌⊎◌, inl, inr, ℕ, ◌<◌, ◌�
 use Rattle.std.proofs.lemmas.Bool.{cases_lt}
 use Rattle.mp_lex.specs.declared.token.Token.{Token}
 use Rattle.mp_lex.specs.Lex.{Reading as Lexing, lex}
-use Rattle.mp_termtext.specs.declared.word.Word.{Word}
-use Rattle.mp_termtext.specs.declared.fault.Fault.{Fault}
-use Rattle.mp_termtext.specs.declared.fail.TextErr.{TextErr}
-use Rattle.mp_termtext.specs.declared.fail.TextFail.TheVariants.{Bad}
-use Rattle.mp_termtext.specs.declared.fail.TextWhy.TheVariants as why
-use Rattle.mp_termtext.specs.Faults.{least}
-use Rattle.mp_termtext.specs.Texts.{words_in, names_in, of_lexical, error_at, bad_token, stuck, broken, ReadsText}
-use Rattle.mp_termtext.proofs.Answering.{none_least}
+use Rattle.mp_words.specs.declared.word.Word.{Word}
+use Rattle.mp_words.specs.declared.fault.Fault.{Fault}
+use Rattle.mp_words.specs.declared.fail.TextErr.{TextErr}
+use Rattle.mp_words.specs.declared.fail.TextFail.TheVariants.{Bad}
+use Rattle.mp_words.specs.declared.fail.TextWhy.TheVariants as why
+use Rattle.mp_words.specs.Faults.{least}
+use Rattle.mp_words.specs.Texts.{words_in, names_in, of_lexical, error_at, bad_token, stuck, broken, ReadsText}
+use Rattle.mp_words.proofs.Answering.{none_least}
 use Rattle.mp_theory.specs.declared.rule.Rule.{Rule}
 use Rattle.mp_theorytext.specs.Grammar.{IsTheory, StuckTheory}
 use Rattle.mp_theorytext.specs.Reading.{ReadsTheory}

@@ -2,13 +2,13 @@
 use Rattle.std.proofs.Common.{◌≡◌, ◌⊎◌, inl, inr, ℕ, suc, zero, ◌+◌, ◌<◌, ◌≤◌, List, [], ◌∷◌, length, None, Some, slice_get, refl, sym, ap, ◌∙◌, arith}
 use Rattle.std.proofs.lemmas.Bool.{cases_eq}
 use Rattle.mp_logic.specs.declared.sym.Sym.{Sym}
-use Rattle.mp_termtext.specs.declared.word.Mark.{Mark}
-use Rattle.mp_termtext.specs.declared.word.Mark.TheVariants as mark
-use Rattle.mp_termtext.specs.declared.word.Keyword.{Keyword}
-use Rattle.mp_termtext.specs.declared.word.Keyword.TheVariants as keyword
-use Rattle.mp_termtext.specs.declared.word.Word.{Word}
-use Rattle.mp_termtext.specs.declared.word.Word.TheVariants as word
-use Rattle.mp_termtext.specs.Parts.{Part, Sign, Stop, No, None_of, IsMark, IsWord, IsName, IsCap, IsCapVar, IsNumber, IsNameAt, IsCapAt, IsNumberAt, Lacks}
+use Rattle.mp_words.specs.declared.word.Mark.{Mark}
+use Rattle.mp_words.specs.declared.word.Mark.TheVariants as mark
+use Rattle.mp_words.specs.declared.word.Keyword.{Keyword}
+use Rattle.mp_words.specs.declared.word.Keyword.TheVariants as keyword
+use Rattle.mp_words.specs.declared.word.Word.{Word}
+use Rattle.mp_words.specs.declared.word.Word.TheVariants as word
+use Rattle.mp_words.specs.Parts.{Part, Sign, Stop, No, None_of, IsMark, IsWord, IsName, IsCap, IsCapVar, IsNumber, IsNameAt, IsCapAt, IsNumberAt, Lacks}
 
 -- at these words the sign stands, or it doesn't
 abbrev pub Stands : Sign → List Word → Type 0

@@ -1,8 +1,8 @@
 -- Parts put together are read or stuck at each list of words where their parts are.
 use Rattle.std.proofs.Common.{◌≡◌, ◌⊎◌, inl, inr, ℕ, ◌+◌, ◌<◌, ◌≤◌, Bool, true, false, List, [], ◌∷◌, length, None, Some, refl, arith}
-use Rattle.mp_termtext.specs.declared.word.Word.{Word}
-use Rattle.mp_termtext.specs.declared.word.Keyword.{Keyword}
-use Rattle.mp_termtext.specs.Parts.{No, More, IsWord, IsNameAt, IsNameBehind, StuckNameBehind, Lacks, Both, StuckBoth, After, StuckAfter, Optional, StuckOptional, Ended, StuckEnded, Led, IfThere, Many, StuckMany, no_more, one_more, in_one, in_others, Repeated, StuckRepeated, no_further, one_further, in_first, in_further, Separated, StuckSeparated, last, more, here, behind, after, Listed, StuckListed}
+use Rattle.mp_words.specs.declared.word.Word.{Word}
+use Rattle.mp_words.specs.declared.word.Keyword.{Keyword}
+use Rattle.mp_words.specs.Parts.{No, More, IsWord, IsNameAt, IsNameBehind, StuckNameBehind, Lacks, Both, StuckBoth, After, StuckAfter, Optional, StuckOptional, Ended, StuckEnded, Led, IfThere, Many, StuckMany, no_more, one_more, in_one, in_others, Repeated, StuckRepeated, no_further, one_further, in_first, in_further, Separated, StuckSeparated, last, more, here, behind, after, Listed, StuckListed}
 use Rattle.mp_run.proofs.Total.{Stands, Found, Decides, Total, SomeReading, by_length, word_stands, total_name_at}
 
 -- what has a word at least is read or stuck

@@ -1,13 +1,13 @@
 -- The words of a schedule are read to their end, or a reading of them is stuck.
 use Rattle.std.proofs.Common.{◌≡◌, inl, inr, ◌+◌, ◌≤◌, true, List, [], ◌∷◌, length, Some, None, refl, arith}
 use Rattle.mp_logic.specs.declared.sym.Sym.{Sym}
-use Rattle.mp_termtext.specs.declared.word.Word.{Word}
-use Rattle.mp_termtext.specs.declared.word.Word.TheVariants as word
-use Rattle.mp_termtext.specs.declared.word.Keyword.{Keyword}
-use Rattle.mp_termtext.specs.declared.word.Keyword.TheVariants as keyword
-use Rattle.mp_termtext.specs.declared.raw.RawName.{RawName}
-use Rattle.mp_termtext.specs.declared.raw.RawNumber.{RawNumber}
-use Rattle.mp_termtext.specs.Parts.{IsWord, IsNumberAt, IsNameBehind, StuckNameBehind, Lacks, Both, After, IfThere, Repeated, StuckRepeated}
+use Rattle.mp_words.specs.declared.word.Word.{Word}
+use Rattle.mp_words.specs.declared.word.Word.TheVariants as word
+use Rattle.mp_words.specs.declared.word.Keyword.{Keyword}
+use Rattle.mp_words.specs.declared.word.Keyword.TheVariants as keyword
+use Rattle.mp_words.specs.declared.raw.RawName.{RawName}
+use Rattle.mp_words.specs.declared.raw.RawNumber.{RawNumber}
+use Rattle.mp_words.specs.Parts.{IsWord, IsNumberAt, IsNameBehind, StuckNameBehind, Lacks, Both, After, IfThere, Repeated, StuckRepeated}
 use Rattle.mp_drill.specs.declared.raw.RawEvent.{RawEvent}
 use Rattle.mp_drill.specs.declared.raw.RawEvent.TheVariants as event
 use Rattle.mp_drill.specs.ScheduleGrammar.{has_worker, begins_event, IsEvent, StuckEvent, IsSection, StuckSection, IsSchedule, StuckSchedule}

@@ -1,13 +1,13 @@
 -- The words of a script are read to their end, or a reading of them is stuck.
 use Rattle.std.proofs.Common.{inl, inr, ℕ, ◌+◌, ◌<◌, ◌≤◌, List, [], ◌∷◌, length, Option, refl, arith}
-use Rattle.mp_termtext.specs.declared.word.Word.{Word}
-use Rattle.mp_termtext.specs.declared.word.Mark.TheVariants as mark
-use Rattle.mp_termtext.specs.declared.word.Keyword.TheVariants as keyword
+use Rattle.mp_words.specs.declared.word.Word.{Word}
+use Rattle.mp_words.specs.declared.word.Mark.TheVariants as mark
+use Rattle.mp_words.specs.declared.word.Keyword.TheVariants as keyword
 use Rattle.mp_termtext.specs.declared.raw.RawBound.{RawBound}
-use Rattle.mp_termtext.specs.declared.raw.RawName.{RawName}
-use Rattle.mp_termtext.specs.declared.raw.RawNumber.{RawNumber}
+use Rattle.mp_words.specs.declared.raw.RawName.{RawName}
+use Rattle.mp_words.specs.declared.raw.RawNumber.{RawNumber}
 use Rattle.mp_termtext.specs.declared.raw.RawSequent.{RawSequent}
-use Rattle.mp_termtext.specs.Parts.{Lacks, IsMark, IsWord, IsNameBehind, StuckNameBehind, IsCapAt, IsNumberAt, Both, StuckBoth, After, StuckAfter, Separated, StuckSeparated}
+use Rattle.mp_words.specs.Parts.{Lacks, IsMark, IsWord, IsNameBehind, StuckNameBehind, IsCapAt, IsNumberAt, Both, StuckBoth, After, StuckAfter, Separated, StuckSeparated}
 use Rattle.mp_termtext.specs.Grammar.{IsBound, StuckBound, IsSequent, StuckSequent}
 use Rattle.mp_scripttext.specs.declared.raw.RawGiven.{RawGiven}
 use Rattle.mp_scripttext.specs.declared.raw.RawStrategy.{RawStrategy, Id, Step, Chain}

@@ -2,15 +2,15 @@
 use Rattle.std.proofs.Common.{◌≡◌, inl, inr, ℤ, ◌+◌, ◌<◌, ◌≤◌, Bool, true, false, List, [], ◌∷◌, length, refl, arith}
 use Rattle.mp_logic.specs.declared.sym.Sym.{Sym}
 use Rattle.mp_term.specs.declared.term.Param.TheVariants as param
-use Rattle.mp_termtext.specs.declared.word.Word.{Word}
-use Rattle.mp_termtext.specs.declared.word.Word.TheVariants as word
-use Rattle.mp_termtext.specs.declared.word.Mark.TheVariants as mark
+use Rattle.mp_words.specs.declared.word.Word.{Word}
+use Rattle.mp_words.specs.declared.word.Word.TheVariants as word
+use Rattle.mp_words.specs.declared.word.Mark.TheVariants as mark
 use Rattle.mp_termtext.specs.declared.raw.Binder.{Binder}
 use Rattle.mp_termtext.specs.declared.raw.RawParam.{RawParam}
 use Rattle.mp_termtext.specs.declared.raw.RawBound.{RawBound}
 use Rattle.mp_termtext.specs.declared.raw.RawTerm.{RawTerm, Var, Op}
 use Rattle.mp_termtext.specs.declared.raw.RawHyp.{RawHyp}
-use Rattle.mp_termtext.specs.Parts.{None_of, Lacks, IsMark, IsName, Both, After, StuckAfter, Separated, StuckSeparated}
+use Rattle.mp_words.specs.Parts.{None_of, Lacks, IsMark, IsName, Both, After, StuckAfter, Separated, StuckSeparated}
 use Rattle.mp_termtext.specs.Grammar.{IsVariable, IsParamWord, IsParam, AreParams, StuckParams, IsBinder, begins_binders, AreSomeBinders, AreBinders, StuckBinders, IsTerm, AreSubs, AreBounds, IsBound, StuckTerm, StuckSubs, StuckBounds, StuckBound, variable, operator, no_subs, some_subs, last_bound, more_bounds, bound, no_name, in_params, in_subs, in_braces, in_bound, behind_bound, in_other_bounds, in_binders, in_body, IsHyp, StuckHyp, AreHyps, StuckHyps, IsSequent, StuckSequent}
 use Rattle.mp_run.proofs.Total.{Stands, Found, Decides, Total, by_length, fewer, mark_stands, name_found, lacks_at, total_name}
 use Rattle.mp_run.proofs.TotalParts.{of_any_length, read_as, both_at, after_at, optional_at, total_separated, total_listed}

@@ -4,20 +4,20 @@ use Rattle.mp_term.specs.declared.sequent.Sequent.{Sequent}
 use Rattle.mp_theory.specs.declared.rule.Rule.{Rule}
 use Rattle.mp_strategy.specs.declared.work.Work.{Work}
 use Rattle.mp_strategy.specs.declared.outcome.Outcome.{Outcome}
-use Rattle.mp_termtext.specs.declared.word.Word.{Word}
+use Rattle.mp_words.specs.declared.word.Word.{Word}
 use Rattle.mp_drill.specs.declared.schedule.Reply.{Reply}
 use Rattle.mp_drill.specs.Laws.{OneTrace}
 use Rattle.mp_report.specs.Traces.{trace_text}
-use Rattle.mp_termtext.specs.declared.fail.TextFail.TheVariants.{Bad}
+use Rattle.mp_words.specs.declared.fail.TextFail.TheVariants.{Bad}
 use Rattle.mp_scripttext.specs.declared.script.Entry.{Entry}
 use Rattle.mp_scripttext.specs.declared.script.Script.{Script as Goals}
 use Rattle.mp_drill.specs.declared.schedule.Section.{Section}
 use Rattle.mp_theorytext.specs.Reading.{ReadsTheory, OneTheoryText}
 use Rattle.mp_scripttext.specs.Reading.{ReadsScript, OneScriptText}
 use Rattle.mp_drill.specs.ScheduleReading.{ReadsSchedule, OneScheduleText}
-use Rattle.mp_termtext.specs.Texts.{OneText, ReadsText}
-use Rattle.mp_termtext.specs.declared.fail.TextErr.{TextErr}
-use Rattle.mp_termtext.specs.declared.fault.Fault.{Fault}
+use Rattle.mp_words.specs.Texts.{OneText, ReadsText}
+use Rattle.mp_words.specs.declared.fail.TextErr.{TextErr}
+use Rattle.mp_words.specs.declared.fault.Fault.{Fault}
 use Rattle.mp_theorytext.specs.Grammar.{IsTheory, StuckTheory}
 use Rattle.mp_theorytext.specs.Statics.{theory_faults}
 use Rattle.mp_scripttext.specs.Grammar.{IsScript, StuckScript}

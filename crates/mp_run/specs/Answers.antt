@@ -3,9 +3,9 @@ use Rattle.std.specs.Prelude.{◌≡◌, ℕ, ◌<◌, ◌≤◌, ◌⊎◌, Boo
 use Rattle.mp_report.specs.declared.refusal.FileKind.{FileKind}
 use Rattle.mp_report.specs.Refusals.{refusal_text}
 use Rattle.mp_run.specs.Lines.{limit_of, long_line}
-use Rattle.mp_termtext.specs.declared.fail.TextErr.{TextErr}
-use Rattle.mp_termtext.specs.declared.fail.TextFail.{TextFail}
-use Rattle.mp_termtext.specs.declared.fail.TextFail.TheVariants.{Bad}
+use Rattle.mp_words.specs.declared.fail.TextErr.{TextErr}
+use Rattle.mp_words.specs.declared.fail.TextFail.{TextFail}
+use Rattle.mp_words.specs.declared.fail.TextFail.TheVariants.{Bad}
 
 -- the block of each goal, and whether all are closed; or the line that tells why a file was refused
 pub data Answer : Type 0 where

@@ -12,8 +12,8 @@ use Rattle.mp_report.specs.Refusals.{refusal_text}
 use Rattle.mp_run.specs.Answers.{Names, Reading, Says, Answer, Refusal}
 use Rattle.mp_run.specs.Commands.{Command}
 use Rattle.mp_run.specs.Lines.{limit_of, long_line, LongCause, fault_line}
-use Rattle.mp_termtext.specs.declared.fail.TextFail.{TextFail}
-use Rattle.mp_termtext.specs.declared.fail.TextFail.TheVariants as fail
+use Rattle.mp_words.specs.declared.fail.TextFail.{TextFail}
+use Rattle.mp_words.specs.declared.fail.TextFail.TheVariants as fail
 
 -- the bytes of a word, if there is one
 abbrev pub word_seen : Option (Bor (List ℕ)) → Option (List ℕ)

@@ -6,7 +6,8 @@ ghost use Rattle.mp_run.specs.Stops.{RefusesBy};
 use crate::stop::Stop;
 use mp_logic::{List, NoMemory, Text};
 use mp_report::{FileKind, push_file, refusal_text};
-use mp_termtext::{TextErr, push_bytes};
+use mp_termtext::push_bytes;
+use mp_words::TextErr;
 use std::alloc::Global;
 
 /// The line that tells that a file is over the limit.

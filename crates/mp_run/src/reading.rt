@@ -15,9 +15,9 @@ use mp_names::Names;
 use mp_ports::{ReadErr, Shelf};
 use mp_report::FileKind;
 use mp_scripttext::{Script, read_script};
-use mp_termtext::TextFail;
 use mp_theory::Theory;
 use mp_theorytext::read_theory;
+use mp_words::TextFail;
 use std::alloc::Global;
 
 /// The limit on the length of a file, in bytes.

@@ -17,10 +17,10 @@ use Rattle.mp_theory.specs.declared.just.Just.TheVariants as just
 use Rattle.mp_theory.specs.Allowed.{are_for, is_allowed, is_allowed_at, is_for, same_bool}
 use Rattle.mp_theory.specs.Tables.{IsRule, place_of}
 use Rattle.mp_termtext.specs.declared.raw.Binder.{Binder}
-use Rattle.mp_termtext.specs.declared.raw.RawNumber.{RawNumber}
-use Rattle.mp_termtext.specs.declared.fail.TextWhy.TheVariants as why
-use Rattle.mp_termtext.specs.Faults.{fault_if}
-use Rattle.mp_termtext.specs.Ranges.{written_number_faults}
+use Rattle.mp_words.specs.declared.raw.RawNumber.{RawNumber}
+use Rattle.mp_words.specs.declared.fail.TextWhy.TheVariants as why
+use Rattle.mp_words.specs.Faults.{fault_if}
+use Rattle.mp_words.specs.Ranges.{written_number_faults}
 use Rattle.mp_termtext.specs.Statics.{bound_faults_of, names_of, raw_size_of}
 use Rattle.mp_termtext.specs.Values.{IsFaultlessBound, bound_value_of, value_of}
 use Rattle.mp_termtext.proofs.RawLayers.{bound_value-is}

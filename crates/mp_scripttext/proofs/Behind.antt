@@ -3,11 +3,11 @@ use Rattle.std.proofs.Common.{◌≡◌, ℕ, List, [], ◌∷◌, Option, None,
 use Rattle.std.specs.List.{flat_map}
 use Rattle.std.proofs.lemmas.Bool.Decides.{nat_tests}
 use Rattle.mp_theory.specs.declared.rule.Need.{Need}
-use Rattle.mp_termtext.specs.declared.fault.Fault.{Fault}
-use Rattle.mp_termtext.specs.declared.fail.TextWhy.{TextWhy}
-use Rattle.mp_termtext.specs.declared.fail.TextWhy.TheVariants as why
-use Rattle.mp_termtext.specs.Faults.{fault, fault_if, is_behind, is_sooner, least_from, rank_of, sooner}
-use Rattle.mp_termtext.proofs.Soonest.{least_from_append}
+use Rattle.mp_words.specs.declared.fault.Fault.{Fault}
+use Rattle.mp_words.specs.declared.fail.TextWhy.{TextWhy}
+use Rattle.mp_words.specs.declared.fail.TextWhy.TheVariants as why
+use Rattle.mp_words.specs.Faults.{fault, fault_if, is_behind, is_sooner, least_from, rank_of, sooner}
+use Rattle.mp_words.proofs.Soonest.{least_from_append}
 use Rattle.mp_scripttext.specs.declared.raw.RawStep.{RawStep}
 use Rattle.mp_scripttext.specs.Statics.{given_of, missing_faults}
 

@@ -6,10 +6,10 @@ use Rattle.mp_logic.specs.declared.sym.Sym.{Sym}
 use Rattle.mp_names.specs.Sets.{Met, is_among, is_met, with_met}
 use Rattle.mp_names.proofs.Meeting.{meeting}
 use Rattle.mp_theory.specs.declared.rule.Rule.{Rule}
-use Rattle.mp_termtext.specs.declared.fault.Fault.{Fault}
-use Rattle.mp_termtext.specs.declared.fail.TextWhy.TheVariants as why
-use Rattle.mp_termtext.specs.Faults.{fault_if, least_from}
-use Rattle.mp_termtext.specs.Ranges.{written_number_faults}
+use Rattle.mp_words.specs.declared.fault.Fault.{Fault}
+use Rattle.mp_words.specs.declared.fail.TextWhy.TheVariants as why
+use Rattle.mp_words.specs.Faults.{fault_if, least_from}
+use Rattle.mp_words.specs.Ranges.{written_number_faults}
 use Rattle.mp_termtext.specs.Statics.{sequent_faults}
 use Rattle.mp_termtext.proofs.FaultSteps.{two_parts, three_parts}
 use Rattle.mp_termtext.proofs.Walks.{left_cons}

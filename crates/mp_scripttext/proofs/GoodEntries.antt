@@ -7,9 +7,9 @@ use Rattle.mp_logic.specs.declared.sym.Sym.{Sym}
 use Rattle.mp_names.specs.Sets.{is_among}
 use Rattle.mp_theory.specs.declared.rule.Rule.{Rule}
 use Rattle.mp_theory.specs.Allowed.{is_allowed}
-use Rattle.mp_termtext.specs.declared.fail.TextWhy.TheVariants as why
-use Rattle.mp_termtext.specs.Faults.{fault_if}
-use Rattle.mp_termtext.specs.Ranges.{written_number_faults}
+use Rattle.mp_words.specs.declared.fail.TextWhy.TheVariants as why
+use Rattle.mp_words.specs.Faults.{fault_if}
+use Rattle.mp_words.specs.Ranges.{written_number_faults}
 use Rattle.mp_termtext.specs.Statics.{sequent_faults}
 use Rattle.mp_termtext.proofs.Faultless.{nil_parts, no_fault}
 use Rattle.mp_scripttext.specs.declared.raw.RawEntry.{RawEntry}

@@ -12,8 +12,8 @@ use Rattle.mp_theory.specs.Allowed.{is_good}
 use Rattle.mp_termtext.specs.declared.raw.RawTerm.{RawTerm}
 use Rattle.mp_termtext.specs.declared.raw.RawHyp.{RawHyp}
 use Rattle.mp_termtext.specs.declared.raw.RawSequent.{RawSequent}
-use Rattle.mp_termtext.specs.declared.fail.TextWhy.TheVariants as why
-use Rattle.mp_termtext.specs.Faults.{fault_if, too_many}
+use Rattle.mp_words.specs.declared.fail.TextWhy.TheVariants as why
+use Rattle.mp_words.specs.Faults.{fault_if, too_many}
 use Rattle.mp_termtext.specs.Statics.{faults_of, hyp_names, hyps_faults, raw_sequent_size_of, raw_size_of, sequent_faults}
 use Rattle.mp_termtext.specs.Values.{hyps_value, sequent_value, value_of}
 use Rattle.mp_termtext.proofs.Faultless.{nil_parts, no_fault, sequent_faultless, length-hyp_names}

@@ -16,7 +16,7 @@ use Rattle.mp_termtext.specs.declared.raw.Binder.{Binder}
 use Rattle.mp_termtext.specs.declared.raw.RawParam.{RawParam}
 use Rattle.mp_termtext.specs.declared.raw.RawBound.{RawBound}
 use Rattle.mp_termtext.specs.declared.raw.RawTerm.{RawTerm, Var, Op}
-use Rattle.mp_termtext.specs.Faults.{too_many}
+use Rattle.mp_words.specs.Faults.{too_many}
 use Rattle.mp_termtext.specs.Statics.{bound_faults_of, deep, each_faults, faults_of, free_level, level_by, level_of, names_of, place_in, raw_size_of, unless_bound}
 use Rattle.mp_termtext.specs.Values.{bound_value_of, each_value, value_of}
 use Rattle.mp_termtext.proofs.Faultless.{nil_parts, not_deep, not_many, place_below}

@@ -1,15 +1,15 @@
 -- A script's words have one reading, or are stuck at one place, and not both.
 use Rattle.std.proofs.Common.{◌≡◌, ℕ, List, [], ◌∷◌, Option, ap, sym, subst, ◌∙◌}
-use Rattle.mp_termtext.specs.declared.word.Word.{Word}
-use Rattle.mp_termtext.specs.declared.word.Mark.TheVariants as mark
-use Rattle.mp_termtext.specs.declared.word.Keyword.TheVariants as keyword
+use Rattle.mp_words.specs.declared.word.Word.{Word}
+use Rattle.mp_words.specs.declared.word.Mark.TheVariants as mark
+use Rattle.mp_words.specs.declared.word.Keyword.TheVariants as keyword
 use Rattle.mp_termtext.specs.declared.raw.RawBound.{RawBound}
-use Rattle.mp_termtext.specs.declared.raw.RawName.{RawName}
-use Rattle.mp_termtext.specs.declared.raw.RawNumber.{RawNumber}
+use Rattle.mp_words.specs.declared.raw.RawName.{RawName}
+use Rattle.mp_words.specs.declared.raw.RawNumber.{RawNumber}
 use Rattle.mp_termtext.specs.declared.raw.RawSequent.{RawSequent}
-use Rattle.mp_termtext.specs.Parts.{Lacks, IsMark, IsWord, IsNameBehind, StuckNameBehind, IsCapAt, IsNumberAt, Both, StuckBoth, After, StuckAfter, Separated, StuckSeparated, HasOne, OneReading}
+use Rattle.mp_words.specs.Parts.{Lacks, IsMark, IsWord, IsNameBehind, StuckNameBehind, IsCapAt, IsNumberAt, Both, StuckBoth, After, StuckAfter, Separated, StuckSeparated, HasOne, OneReading}
 use Rattle.mp_termtext.specs.Grammar.{IsBound, StuckBound, IsSequent, StuckSequent}
-use Rattle.mp_termtext.proofs.Combine.{one_mark, one_word, one_name_behind, one_cap_at, one_number_at, one_placed, one_both, one_after, one_optional, one_led, one_many, one_separated}
+use Rattle.mp_words.proofs.Combine.{one_mark, one_word, one_name_behind, one_cap_at, one_number_at, one_placed, one_both, one_after, one_optional, one_led, one_many, one_separated}
 use Rattle.mp_termtext.proofs.OneTerm.{one_bound, one_sequent}
 use Rattle.mp_scripttext.specs.declared.raw.RawGiven.{RawGiven}
 use Rattle.mp_scripttext.specs.declared.raw.RawStep.{RawStep}

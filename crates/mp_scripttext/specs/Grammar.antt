@@ -3,12 +3,12 @@
 --   strategy = "id" | step | ( chain )     step = "rule" Small ("at" Num)? ("with" [ given (; given)* ])?
 --   given = Cap := binders? term
 use Rattle.std.specs.Prelude.{◌≡◌, ℕ, List, [], ◌∷◌, length, Option}
-use Rattle.mp_termtext.specs.declared.word.Word.{Word}
-use Rattle.mp_termtext.specs.declared.word.Mark.TheVariants as mark
-use Rattle.mp_termtext.specs.declared.word.Keyword.TheVariants as keyword
+use Rattle.mp_words.specs.declared.word.Word.{Word}
+use Rattle.mp_words.specs.declared.word.Mark.TheVariants as mark
+use Rattle.mp_words.specs.declared.word.Keyword.TheVariants as keyword
 use Rattle.mp_termtext.specs.declared.raw.RawBound.{RawBound}
-use Rattle.mp_termtext.specs.declared.raw.RawNumber.{RawNumber}
-use Rattle.mp_termtext.specs.Parts.{No, Lacks, IsMark, IsWord, IsCapAt, IsNumberAt, IsNameBehind, StuckNameBehind, Both, StuckBoth, After, StuckAfter, Optional, StuckOptional, Led, Many, StuckMany, Separated, StuckSeparated}
+use Rattle.mp_words.specs.declared.raw.RawNumber.{RawNumber}
+use Rattle.mp_words.specs.Parts.{No, Lacks, IsMark, IsWord, IsCapAt, IsNumberAt, IsNameBehind, StuckNameBehind, Both, StuckBoth, After, StuckAfter, Optional, StuckOptional, Led, Many, StuckMany, Separated, StuckSeparated}
 use Rattle.mp_termtext.specs.Grammar.{IsBound, StuckBound, IsSequent, StuckSequent}
 use Rattle.mp_scripttext.specs.declared.raw.RawGiven.{RawGiven}
 use Rattle.mp_scripttext.specs.declared.raw.RawStep.{RawStep}

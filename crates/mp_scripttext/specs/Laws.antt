@@ -1,5 +1,5 @@
 -- The words of a script have one reading, or are stuck at one place, and not both.
-use Rattle.mp_termtext.specs.Parts.{OneReading}
+use Rattle.mp_words.specs.Parts.{OneReading}
 use Rattle.mp_scripttext.specs.Grammar.{IsScript, StuckScript}
 
 abbrev pub OneScript : Type 0

@@ -1,9 +1,9 @@
 -- What the reader of scripts answers of a text.
 use Rattle.std.specs.Prelude.{ℕ, List, Result}
 use Rattle.mp_theory.specs.declared.rule.Rule.{Rule}
-use Rattle.mp_termtext.specs.declared.fail.TextErr.{TextErr}
-use Rattle.mp_termtext.specs.declared.fail.TextFail.{TextFail}
-use Rattle.mp_termtext.specs.Texts.{IsText, IsFaulty, OneText, ReadsText}
+use Rattle.mp_words.specs.declared.fail.TextErr.{TextErr}
+use Rattle.mp_words.specs.declared.fail.TextFail.{TextFail}
+use Rattle.mp_words.specs.Texts.{IsText, IsFaulty, OneText, ReadsText}
 use Rattle.mp_scripttext.specs.declared.script.Script.{Script}
 use Rattle.mp_scripttext.specs.Grammar.{IsScript, StuckScript}
 use Rattle.mp_scripttext.specs.Statics.{script_faults}

@@ -7,11 +7,11 @@ use Rattle.mp_schema.specs.Conditions.{has_two_contexts}
 use Rattle.mp_theory.specs.declared.rule.Rule.{Rule}
 use Rattle.mp_theory.specs.declared.rule.Need.{Need}
 use Rattle.mp_theory.specs.Tables.{place_of}
-use Rattle.mp_termtext.specs.declared.raw.RawNumber.{RawNumber}
-use Rattle.mp_termtext.specs.declared.fail.TextWhy.TheVariants as why
-use Rattle.mp_termtext.specs.declared.fault.Fault.{Fault}
-use Rattle.mp_termtext.specs.Faults.{fault, fault_if}
-use Rattle.mp_termtext.specs.Ranges.{written_number_faults}
+use Rattle.mp_words.specs.declared.raw.RawNumber.{RawNumber}
+use Rattle.mp_words.specs.declared.fail.TextWhy.TheVariants as why
+use Rattle.mp_words.specs.declared.fault.Fault.{Fault}
+use Rattle.mp_words.specs.Faults.{fault, fault_if}
+use Rattle.mp_words.specs.Ranges.{written_number_faults}
 use Rattle.mp_termtext.specs.Statics.{bound_term_faults, sequent_faults}
 use Rattle.mp_scripttext.specs.declared.raw.RawGiven.{RawGiven}
 use Rattle.mp_scripttext.specs.declared.raw.RawStep.{RawStep}

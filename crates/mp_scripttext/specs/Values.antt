@@ -7,7 +7,7 @@ use Rattle.mp_theory.specs.declared.just.Given.{Given}
 use Rattle.mp_theory.specs.declared.just.Just.{Just}
 use Rattle.mp_theory.specs.declared.just.Just.TheVariants as just
 use Rattle.mp_theory.specs.Tables.{place_of}
-use Rattle.mp_termtext.specs.declared.raw.RawNumber.{RawNumber}
+use Rattle.mp_words.specs.declared.raw.RawNumber.{RawNumber}
 use Rattle.mp_termtext.specs.Statics.{names_of}
 use Rattle.mp_termtext.specs.Values.{sequent_value, value_of}
 use Rattle.mp_scripttext.specs.declared.raw.RawGiven.{RawGiven}

@@ -1,11 +1,11 @@
 ghost use Rattle.std.specs.Prelude.{◌<◌, length, IfOk};
-ghost use Rattle.mp_termtext.specs.Parts.{Reads};
+ghost use Rattle.mp_words.specs.Parts.{Reads};
 ghost use Rattle.mp_scripttext.specs.Grammar.{IsStrategy, StuckStrategy, IsChain, StuckChain};
 
 use crate::raw::RawStrategy;
 use crate::step::parse_step;
 use mp_logic::List;
-use mp_termtext::{Keyword, Mark, ReadFail, Word, keyword, mark, stuck};
+use mp_words::{Keyword, Mark, ReadFail, Word, keyword, mark, stuck};
 use std::alloc::Global;
 
 /// Reads a strategy without `then`, but for those between its parentheses.

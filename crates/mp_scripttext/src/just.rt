@@ -2,15 +2,16 @@ ghost use Rattle.std.specs.Prelude.{◌≡◌, ◌++◌, ◌∷◌, [], length, 
 ghost use Rattle.std.specs.List.{flat_map, list_all};
 ghost use Rattle.std.specs.Option.{option_copied};
 ghost use Rattle.mp_theory.specs.Allowed.{is_allowed};
-ghost use Rattle.mp_termtext.specs.Ranges.{written_number_faults};
+ghost use Rattle.mp_words.specs.Ranges.{written_number_faults};
 ghost use Rattle.mp_scripttext.specs.Statics.{given_of, missing_faults, step_faults, term_faults};
 ghost use Rattle.mp_scripttext.specs.Strategies.{strategy_of, whole_of};
 ghost use Rattle.mp_scripttext.specs.Values.{first_of, given_for, just_of};
 
 use crate::raw::{RawGiven, RawStep, RawStrategy};
 use mp_logic::{List, NoMemory, Sym};
-use mp_termtext::{RawNumber, build_bound};
+use mp_termtext::build_bound;
 use mp_theory::{Given, Just, Need, Theory};
+use mp_words::RawNumber;
 use std::alloc::Global;
 
 /// How many names are free in a given term.

@@ -1,5 +1,5 @@
 ghost use Rattle.std.specs.Prelude.{◌≡◌, ◌≤◌, [], IfOk};
-ghost use Rattle.mp_termtext.specs.Ranges.{written_number_faults};
+ghost use Rattle.mp_words.specs.Ranges.{written_number_faults};
 ghost use Rattle.mp_scripttext.specs.Entries.{EachGood, IsGoodEntry};
 ghost use Rattle.mp_scripttext.specs.Statics.{entry_faults, script_faults};
 ghost use Rattle.mp_scripttext.specs.Values.{entry_of, fuel_of, script_of};
@@ -9,8 +9,9 @@ use crate::raw::RawEntry;
 use crate::script::{Entry, Script};
 use crate::table::table;
 use mp_logic::{List, NoMemory};
-use mp_termtext::{RawNumber, build_sequent};
+use mp_termtext::build_sequent;
 use mp_theory::Theory;
+use mp_words::RawNumber;
 use std::alloc::Global;
 
 /// The fuel where none is written.

@@ -1,5 +1,6 @@
 use mp_logic::List;
-use mp_termtext::{RawBound, RawName, RawNumber, RawSequent};
+use mp_termtext::{RawBound, RawSequent};
+use mp_words::{RawName, RawNumber};
 
 /// A given term as it is written: the name of a need, and a term behind its binders.
 #[derive(Drop)]

@@ -8,8 +8,8 @@ use crate::script::Script;
 use crate::statics::script_fault;
 use crate::syntax::parse_script;
 use mp_names::Names;
-use mp_termtext::{TextFail, lex_text};
 use mp_theory::Theory;
+use mp_words::{TextFail, lex_text};
 use std::alloc::Global;
 
 /// Reads a script that is all of the text, in a theory: its goals, in the order of the text. A step may give what its rule

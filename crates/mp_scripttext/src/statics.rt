@@ -1,7 +1,7 @@
 ghost use Rattle.std.specs.Prelude.{◌≡◌, ◌++◌, IfOk, if◌then◌else◌, nat_lt};
 ghost use Rattle.std.specs.List.{flat_map};
-ghost use Rattle.mp_termtext.specs.declared.fail.TextWhy.TheVariants as why;
-ghost use Rattle.mp_termtext.specs.Faults.{fault_if, least, least_from};
+ghost use Rattle.mp_words.specs.declared.fail.TextWhy.TheVariants as why;
+ghost use Rattle.mp_words.specs.Faults.{fault_if, least, least_from};
 ghost use Rattle.mp_scripttext.specs.Statics.{entry_faults, script_faults, step_faults};
 ghost use Rattle.mp_scripttext.specs.Strategies.{strategy_of, whole_of};
 
@@ -10,8 +10,9 @@ use crate::shape::whole_shape;
 use crate::step_statics::check_step;
 use mp_logic::{List, NoMemory};
 use mp_names::NameSet;
-use mp_termtext::{Fault, RawName, TextWhy, check_sequent, check_written_number, sooner_of};
+use mp_termtext::check_sequent;
 use mp_theory::Theory;
+use mp_words::{Fault, RawName, TextWhy, check_written_number, sooner_of};
 use std::alloc::Global;
 
 /// The most fuel of a goal.

@@ -1,12 +1,13 @@
 ghost use Rattle.std.specs.Prelude.{◌<◌, ◌≤◌, length, IfOk};
-ghost use Rattle.mp_termtext.specs.Parts.{IsNumberAt, IsWord, Lacks, Led, StuckOptional, Reads};
+ghost use Rattle.mp_words.specs.Parts.{IsNumberAt, IsWord, Lacks, Led, StuckOptional, Reads};
 ghost use Rattle.mp_scripttext.specs.Grammar.{IsGiven, StuckGiven, AreSomeGiven, StuckSomeGiven, AreGiven, StuckAllGiven, IsStep, StuckStep};
 
 use crate::raw::{RawGiven, RawStep};
 use mp_logic::List;
-use mp_termtext::{
+use mp_termtext::parse_bound;
+use mp_words::{
     Keyword, Mark, RawNumber, ReadFail, Reader, Word, capital_at, keyword, mark, name_behind,
-    number_at, parse_bound, separated, stuck,
+    number_at, separated, stuck,
 };
 use std::alloc::Global;
 

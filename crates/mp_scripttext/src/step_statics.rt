@@ -3,15 +3,16 @@ ghost use Rattle.std.specs.List.{flat_map};
 ghost use Rattle.std.specs.Option.{option_copied};
 ghost use Rattle.mp_names.specs.Sets.{is_among};
 ghost use Rattle.mp_schema.specs.Conditions.{has_two_contexts, names_in};
-ghost use Rattle.mp_termtext.specs.declared.fail.TextWhy.TheVariants as why;
-ghost use Rattle.mp_termtext.specs.Faults.{fault_if, least_from};
+ghost use Rattle.mp_words.specs.declared.fail.TextWhy.TheVariants as why;
+ghost use Rattle.mp_words.specs.Faults.{fault_if, least_from};
 ghost use Rattle.mp_scripttext.specs.Statics.{all_given_faults, given_faults, given_of, missing_faults, need_faults, need_of, place_faults, rule_faults, rule_named, step_faults, term_faults};
 
 use crate::raw::{RawGiven, RawStep};
 use mp_logic::{List, NoMemory, Sym};
 use mp_schema::{Item, Schema};
-use mp_termtext::{Fault, TextWhy, behind, check_bound_term, check_written_number, sooner_of};
+use mp_termtext::check_bound_term;
 use mp_theory::{Need, Rule, Theory};
+use mp_words::{Fault, TextWhy, behind, check_written_number, sooner_of};
 use std::alloc::Global;
 
 /// The greatest number behind `at`: one more than a sequent has hypotheses.

@@ -1,14 +1,13 @@
 ghost use Rattle.std.specs.Prelude.{◌<◌, ◌≤◌, [], length, IfOk};
-ghost use Rattle.mp_termtext.specs.Parts.{Reads};
+ghost use Rattle.mp_words.specs.Parts.{Reads};
 ghost use Rattle.mp_scripttext.specs.Grammar.{IsEntry, StuckEntry, IsScript, StuckScript};
 
 use crate::chain::parse_chain;
 use crate::raw::RawEntry;
 use crate::step::parse_number_behind;
 use mp_logic::List;
-use mp_termtext::{
-    Keyword, Mark, ReadFail, Reader, Word, keyword, many, mark, name_behind, parse_sequent, stuck,
-};
+use mp_termtext::parse_sequent;
+use mp_words::{Keyword, Mark, ReadFail, Reader, Word, keyword, many, mark, name_behind, stuck};
 use std::alloc::Global;
 
 impl Reader for RawEntry {

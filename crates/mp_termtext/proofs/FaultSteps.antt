@@ -5,11 +5,11 @@ use Rattle.mp_logic.specs.declared.sym.Sym.{Sym}
 use Rattle.mp_logic.specs.Trees.{counted}
 use Rattle.mp_termtext.specs.declared.raw.RawHyp.{RawHyp}
 use Rattle.mp_termtext.specs.declared.raw.RawSequent.{RawSequent}
-use Rattle.mp_termtext.specs.declared.fail.TextWhy.TheVariants as why
-use Rattle.mp_termtext.specs.declared.fault.Fault.{Fault}
-use Rattle.mp_termtext.specs.Faults.{fault_if, least_from, too_many}
+use Rattle.mp_words.specs.declared.fail.TextWhy.TheVariants as why
+use Rattle.mp_words.specs.declared.fault.Fault.{Fault}
+use Rattle.mp_words.specs.Faults.{fault_if, least_from, too_many}
 use Rattle.mp_termtext.specs.Statics.{Checked, each_faults, faults_of, hyp_names, hyps_faults, raw_sequent_size_of, sequent_faults}
-use Rattle.mp_termtext.proofs.Soonest.{least_from_append}
+use Rattle.mp_words.proofs.Soonest.{least_from_append}
 use Rattle.mp_termtext.proofs.Walks.{left_cons}
 
 -- two, three or four parts, one after the other

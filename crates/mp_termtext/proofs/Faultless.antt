@@ -5,16 +5,16 @@ use Rattle.std.proofs.lemmas.Bool.Decides.{nat_tests}
 use Rattle.std.proofs.lemmas.Option.{slice_get_cases}
 use Rattle.mp_logic.specs.declared.sym.Sym.{Sym}
 use Rattle.mp_termtext.specs.declared.raw.Binder.{Binder}
-use Rattle.mp_termtext.specs.declared.raw.RawNumber.{RawNumber}
+use Rattle.mp_words.specs.declared.raw.RawNumber.{RawNumber}
 use Rattle.mp_termtext.specs.declared.raw.RawParam.{RawParam}
 use Rattle.mp_termtext.specs.declared.raw.RawBound.{RawBound}
 use Rattle.mp_termtext.specs.declared.raw.RawTerm.{RawTerm, Var, Op}
 use Rattle.mp_termtext.specs.declared.raw.RawHyp.{RawHyp}
 use Rattle.mp_termtext.specs.declared.raw.RawSequent.{RawSequent}
-use Rattle.mp_termtext.specs.declared.fail.TextWhy.{TextWhy}
-use Rattle.mp_termtext.specs.declared.fail.TextWhy.TheVariants as why
-use Rattle.mp_termtext.specs.Faults.{fault_if, fault_at_any, too_many}
-use Rattle.mp_termtext.specs.Ranges.{is_between, number_faults}
+use Rattle.mp_words.specs.declared.fail.TextWhy.{TextWhy}
+use Rattle.mp_words.specs.declared.fail.TextWhy.TheVariants as why
+use Rattle.mp_words.specs.Faults.{fault_if, fault_at_any, too_many}
+use Rattle.mp_words.specs.Ranges.{is_between, number_faults}
 use Rattle.mp_termtext.specs.Statics.{bound_faults_of, deep, each_faults, faults_of, free_level, hyp_names, hyps_faults, left_of, level_by, level_of, names_of, or_here, place_in, raw_sequent_size_of, raw_size_of, sequent_faults, term_faults, unless_bound}
 use Rattle.mp_termtext.specs.Values.{AreFaultless, IsFaultless, IsFaultlessBound}
 use Rattle.mp_termtext.proofs.Walks.{left_cons}

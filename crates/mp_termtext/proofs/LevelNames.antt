@@ -6,7 +6,7 @@ use Rattle.mp_names.specs.Table.{HasNumber, is_held, number_of}
 use Rattle.mp_names.proofs.Tables.{number_held}
 use Rattle.mp_termtext.specs.Printing.{name_text}
 use Rattle.mp_termtext.specs.Statics.{free_level, level_by, level_of, or_here, place_in}
-use Rattle.mp_termtext.specs.Words.{numbered_of, sym_of}
+use Rattle.mp_words.specs.Words.{numbered_of, sym_of}
 use Rattle.mp_termtext.proofs.NumberTexts.{name_text-injective, numbered-name_text}
 use Rattle.mp_termtext.proofs.Printable.{most_levels}
 

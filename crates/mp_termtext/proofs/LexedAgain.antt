@@ -24,7 +24,7 @@ use Rattle.mp_term.specs.declared.sequent.Sequent.{Sequent}
 use Rattle.mp_term.specs.Induction.{OfEachBody, each_term}
 use Rattle.mp_termtext.specs.Printing.{at_scope, binders_text, bound_text, escaped, further_binders_text, further_hyps_text, further_text, hyp_text, hyps_text, list_text, name_text, param_text, quoted, sequent_text, term_text}
 use Rattle.mp_termtext.specs.Round.{fits_i64, is_written_param}
-use Rattle.mp_termtext.specs.Words.{Piece, piece_of, pieces_of}
+use Rattle.mp_words.specs.Words.{Piece, piece_of, pieces_of}
 use Rattle.mp_termtext.proofs.NumberTexts.{digits_of-decimal, is_number-signed_decimal, small-name_text}
 use Rattle.mp_termtext.proofs.StringTexts.{string_len-escaped}
 use Rattle.mp_termtext.proofs.PrintedPieces.{binder_pieces, bound_pieces, bound_pieces-is, bound_text-is, each_param, further_binder_pieces, further_hyp_pieces, further_pieces, hyp_pieces, hyps_pieces, list_pieces, mark_piece, name_piece, param_piece, piece, pieces_at, pieces-Op, pieces-Var, sequent_pieces, term_pieces, text-Op, text-Var}

@@ -1,11 +1,7 @@
-pub mod Answering
-pub mod Combine
 pub mod FaultSteps
 pub mod Faultless
-pub mod Later
 pub mod LevelNames
 pub mod LexedAgain
-pub mod Loops
 pub mod NumberTexts
 pub mod OneTerm
 pub mod Printable
@@ -15,9 +11,7 @@ pub mod RawLayers
 pub mod ReadAgain
 pub mod RoundTrip
 pub mod Scopes
-pub mod Soonest
-pub mod Steps
 pub mod StringTexts
-pub mod TableFacts
+pub mod Unbound
 pub mod ValueSteps
 pub mod Walks

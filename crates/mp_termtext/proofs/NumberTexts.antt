@@ -13,7 +13,7 @@ use Rattle.mp_lex.specs.Bytes.{is_digit, is_small, is_word}
 use Rattle.mp_lex.specs.Forms.{is_name, is_negative, is_number, is_positive, value_of}
 use Rattle.mp_termtext.specs.Printing.{name_text}
 use Rattle.mp_termtext.specs.Round.{fits_i64}
-use Rattle.mp_termtext.specs.Words.{integer_of, minus, numbered_of}
+use Rattle.mp_words.specs.Words.{integer_of, minus, numbered_of}
 
 abbrev AreDigits : List ℕ → Type 0
 AreDigits ds = list_all is_digit ds ≡ true

@@ -3,13 +3,13 @@ use Rattle.std.proofs.Common.{◌≡◌, ℕ, List, [], ◌∷◌, Option, inl, 
 use Rattle.mp_logic.specs.declared.sym.Sym.{Sym}
 use Rattle.mp_term.specs.declared.term.Param.{Param}
 use Rattle.mp_term.specs.declared.term.Param.TheVariants as param
-use Rattle.mp_termtext.specs.declared.word.Word.{Word}
-use Rattle.mp_termtext.specs.declared.word.Mark.TheVariants as mark
+use Rattle.mp_words.specs.declared.word.Word.{Word}
+use Rattle.mp_words.specs.declared.word.Mark.TheVariants as mark
 use Rattle.mp_termtext.specs.declared.raw.RawBound.{RawBound}
 use Rattle.mp_termtext.specs.declared.raw.RawTerm.{RawTerm, Var, Op}
-use Rattle.mp_termtext.specs.Parts.{IsMark, IsName, Lacks, Both, After, StuckAfter, Separated, StuckSeparated, Whole, StuckWhole, HasOne, AreApart, OneReading}
+use Rattle.mp_words.specs.Parts.{IsMark, IsName, Lacks, Both, After, StuckAfter, Separated, StuckSeparated, Whole, StuckWhole, HasOne, AreApart, OneReading}
 use Rattle.mp_termtext.specs.Grammar.{IsVariable, IsParamWord, IsParam, AreParams, StuckParams, IsBinder, AreSomeBinders, AreBinders, StuckBinders, IsTerm, AreSubs, AreBounds, IsBound, StuckTerm, StuckSubs, StuckBounds, StuckBound, variable, operator, no_subs, some_subs, last_bound, more_bounds, bound, no_name, in_params, in_subs, in_braces, in_bound, behind_bound, in_other_bounds, in_binders, in_body, IsHyp, StuckHyp, AreHyps, StuckHyps, IsSequent, StuckSequent}
-use Rattle.mp_termtext.proofs.Combine.{one_mark, two_marks, one_lacks, one_name, one_both, one_after, one_optional, one_separated, one_listed, one_whole}
+use Rattle.mp_words.proofs.Combine.{one_mark, two_marks, one_lacks, one_name, one_both, one_after, one_optional, one_separated, one_listed, one_whole}
 
 -- a written subterm is its binders and its body
 bound_parts : (k j : RawBound) → k.binders ≡ j.binders → k.body ≡ j.body → k ≡ j

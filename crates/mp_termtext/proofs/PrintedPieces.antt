@@ -18,7 +18,7 @@ use Rattle.mp_term.specs.declared.sequent.Sequent.{Sequent}
 use Rattle.mp_term.specs.Terms.{all_true, body_step}
 use Rattle.mp_termtext.specs.Printing.{at_scope, binders_text, bound_text, list_text, name_text, param_text, quoted, term_text}
 use Rattle.mp_termtext.specs.Round.{is_written, is_written_param, written_step}
-use Rattle.mp_termtext.specs.Words.{Piece}
+use Rattle.mp_words.specs.Words.{Piece}
 
 abbrev pub piece : Kind → List ℕ → Piece
 piece k text = record { kind = k; text = text }

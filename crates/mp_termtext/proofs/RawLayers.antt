@@ -7,7 +7,7 @@ use Rattle.mp_term.specs.declared.term.Bound.{Bound}
 use Rattle.mp_termtext.specs.declared.raw.RawParam.{RawParam}
 use Rattle.mp_termtext.specs.declared.raw.RawBound.{RawBound, fold-RawBound}
 use Rattle.mp_termtext.specs.declared.raw.RawTerm.{Var, Op, the_lemmas}
-use Rattle.mp_termtext.specs.Faults.{too_many}
+use Rattle.mp_words.specs.Faults.{too_many}
 use Rattle.mp_termtext.specs.Statics.{bound_faults_of, deep, each_faults, faults_of, level_of, names_of, raw_size_of, raw_size_step, raw_size_bound_step, unless_bound}
 use Rattle.mp_termtext.specs.Values.{bound_value_of, each_value, value_of}
 

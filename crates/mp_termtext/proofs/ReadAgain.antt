@@ -19,9 +19,9 @@ use Rattle.mp_term.specs.declared.term.Bound.{Bound}
 use Rattle.mp_term.specs.Induction.{OfEachBody, each_term}
 use Rattle.mp_term.specs.Terms.{size_of}
 use Rattle.mp_term.proofs.Layers.{depth-Var, size_bound, size_bound-is, size-Op, size-Var}
-use Rattle.mp_termtext.specs.declared.word.Word.{Word}
-use Rattle.mp_termtext.specs.declared.word.Word.TheVariants as word
-use Rattle.mp_termtext.specs.declared.word.Mark.TheVariants as mark
+use Rattle.mp_words.specs.declared.word.Word.{Word}
+use Rattle.mp_words.specs.declared.word.Word.TheVariants as word
+use Rattle.mp_words.specs.declared.word.Mark.TheVariants as mark
 use Rattle.mp_termtext.specs.declared.raw.Binder.{Binder}
 use Rattle.mp_termtext.specs.declared.raw.RawParam.{RawParam}
 use Rattle.mp_termtext.specs.declared.raw.RawBound.{RawBound}
@@ -30,15 +30,15 @@ use Rattle.mp_termtext.specs.declared.raw.RawHyp.{RawHyp}
 use Rattle.mp_termtext.specs.declared.raw.RawSequent.{RawSequent}
 use Rattle.mp_term.specs.declared.sequent.Sequent.{Sequent}
 use Rattle.mp_term.specs.Limits.{sequent_size_of}
-use Rattle.mp_termtext.specs.declared.fail.TextWhy.TheVariants as why
-use Rattle.mp_termtext.specs.Faults.{fault_at_any, fault_if, too_many}
-use Rattle.mp_termtext.specs.Parts.{No, IsMark, Separated, last, more}
+use Rattle.mp_words.specs.declared.fail.TextWhy.TheVariants as why
+use Rattle.mp_words.specs.Faults.{fault_at_any, fault_if, too_many}
+use Rattle.mp_words.specs.Parts.{No, IsMark, Separated, last, more}
 use Rattle.mp_termtext.specs.Grammar.{AreHyps, IsHyp, IsSequent, IsParamWord, IsParam, AreParams, AreSomeBinders, begins_binders, marks_binders, IsTerm, AreSubs, AreBounds, IsBound, variable, operator, no_subs, some_subs, last_bound, more_bounds, bound}
 use Rattle.mp_termtext.specs.Printing.{name_text, quoted}
 use Rattle.mp_termtext.specs.Round.{is_written_param}
 use Rattle.mp_termtext.specs.Statics.{bound_faults_of, deep, each_faults, faults_of, hyp_names, hyps_faults, level_of, names_of, raw_sequent_size_of, raw_size_of, sequent_faults, unless_bound}
 use Rattle.mp_termtext.specs.Values.{bound_value_of, each_value, hyps_value, sequent_value, value_of}
-use Rattle.mp_termtext.specs.Words.{Piece, keyword_of, numbered_of, sym_of, word_of}
+use Rattle.mp_words.specs.Words.{Piece, keyword_of, numbered_of, sym_of, word_of}
 use Rattle.mp_termtext.proofs.Faultless.{length-hyp_names}
 use Rattle.mp_termtext.proofs.LevelNames.{IsNamed, length-names_from, level_again, name_at, names_from, names_join}
 use Rattle.mp_termtext.proofs.NumberTexts.{integer_of-signed_decimal}
@@ -46,7 +46,7 @@ use Rattle.mp_termtext.proofs.StringTexts.{content_of-quoted}
 use Rattle.mp_termtext.proofs.PrintedPieces.{binder_pieces, bound_pieces, bound_pieces-is, each_param, further_binder_pieces, further_hyp_pieces, further_pieces, hyp_pieces, list_pieces, mark_piece, name_piece, param_piece, pieces_at, pieces-Op, pieces-Var, sequent_pieces, term_pieces}
 use Rattle.mp_termtext.proofs.Printable.{FitBound, FitBounds, FitHyps, Fits, first_sub, further_subs, op_named, op_params, op_subs, some_depth, var_fits}
 use Rattle.mp_termtext.proofs.RawLayers.{bound_faults-is, bound_value-is, faults-Op, faults-Var, raw_size_bound, raw_size_bound-is, raw_size-Op, raw_size-Var, value-Op, value-Var}
-use Rattle.mp_termtext.proofs.TableFacts.{AllHeld, has_name, has_text, held_back, held_front, sym_again}
+use Rattle.mp_words.proofs.TableFacts.{AllHeld, has_name, has_text, held_back, held_front, sym_again}
 
 shallow : (d l : ℕ) → d ≤ 200 → deep d l ≡ []
 shallow d l h = let e : nat_lt 200 d ≡ false = grind (arith, nat_tests, h) in ap (λ b. fault_if b l why.TooDeep) e

@@ -8,20 +8,20 @@ use Rattle.mp_lex.specs.declared.token.Token.{Token}
 use Rattle.mp_term.specs.declared.term.Term.{Term}
 use Rattle.mp_term.specs.Terms.{in_scope_of}
 use Rattle.mp_term.specs.Limits.{few_binders_of, in_scopes_from, is_shallow, sequent_size_of}
-use Rattle.mp_termtext.specs.declared.fail.TextWhy.TheVariants as why
-use Rattle.mp_termtext.specs.Faults.{fault_if}
+use Rattle.mp_words.specs.declared.fail.TextWhy.TheVariants as why
+use Rattle.mp_words.specs.Faults.{fault_if}
 use Rattle.mp_termtext.specs.Grammar.{IsSequent, IsTerm}
 use Rattle.mp_termtext.specs.Printing.{sequent_text, term_text}
 use Rattle.mp_termtext.specs.Round.{PrintedSequentIsRead, PrintedTermIsRead, is_written}
 use Rattle.mp_termtext.specs.Statics.{left_of, raw_size_of}
-use Rattle.mp_termtext.specs.Texts.{words_in}
-use Rattle.mp_termtext.specs.Words.{Piece, names_after, pieces_of, word_of, words_of}
-use Rattle.mp_termtext.proofs.Later.{names_after_extends, words_by_last}
+use Rattle.mp_words.specs.Texts.{words_in}
+use Rattle.mp_words.specs.Words.{Piece, names_after, pieces_of, word_of, words_of}
+use Rattle.mp_words.proofs.Later.{names_after_extends, words_by_last}
 use Rattle.mp_termtext.proofs.LexedAgain.{sequent_lexes, term_lexes, whole_lexes}
 use Rattle.mp_termtext.proofs.PrintedPieces.{sequent_pieces, term_pieces}
 use Rattle.mp_termtext.proofs.Printable.{FitHyps, Fits, most_levels}
 use Rattle.mp_termtext.proofs.ReadAgain.{few_nodes, sequent_again, term_again}
-use Rattle.mp_termtext.proofs.TableFacts.{all_held, distinct_after}
+use Rattle.mp_words.proofs.TableFacts.{all_held, distinct_after}
 
 -- the words of a text whose tokens have these pieces, by the table that it leaves
 words_are : (later : List (List ℕ)) (text : List ℕ) (ts : List Token) (ps : List Piece) → pieces_of text ts ≡ ps → map (word_of (names_after later ps)) ps ++ [] ≡ words_in later text ts

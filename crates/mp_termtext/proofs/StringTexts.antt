@@ -3,7 +3,7 @@ use Rattle.std.proofs.Common.{◌≡◌, ◌++◌, ◌+◌, ℕ, List, [], ◌�
 use Rattle.std.specs.Prelude.{if◌then◌else◌}
 use Rattle.mp_lex.specs.Lex.{string_len}
 use Rattle.mp_termtext.specs.Printing.{escaped, quoted}
-use Rattle.mp_termtext.specs.Words.{content_of, unescaped}
+use Rattle.mp_words.specs.Words.{content_of, unescaped}
 
 neither : (a b : Bool) → a || b ≡ false → (a ≡ false) × (b ≡ false)
 neither true b h = absurd (true≢false h)

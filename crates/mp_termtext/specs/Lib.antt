@@ -1,11 +1,6 @@
-pub mod Faults
 pub mod Grammar
-pub mod Parts
 pub mod Printing
-pub mod Ranges
 pub mod Reading
 pub mod Round
 pub mod Statics
-pub mod Texts
 pub mod Values
-pub mod Words

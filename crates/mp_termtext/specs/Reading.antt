@@ -2,12 +2,12 @@
 use Rattle.std.specs.Prelude.{ℕ, List, Result}
 use Rattle.mp_term.specs.declared.term.Term.{Term}
 use Rattle.mp_term.specs.declared.sequent.Sequent.{Sequent}
-use Rattle.mp_termtext.specs.declared.fail.TextFail.{TextFail}
-use Rattle.mp_termtext.specs.Parts.{Whole, StuckWhole}
+use Rattle.mp_words.specs.declared.fail.TextFail.{TextFail}
+use Rattle.mp_words.specs.Parts.{Whole, StuckWhole}
 use Rattle.mp_termtext.specs.Grammar.{IsTerm, StuckTerm, IsSequent, StuckSequent}
 use Rattle.mp_termtext.specs.Statics.{term_faults, sequent_faults}
 use Rattle.mp_termtext.specs.Values.{term_value, sequent_value}
-use Rattle.mp_termtext.specs.Texts.{IsText, OneText, ReadsText}
+use Rattle.mp_words.specs.Texts.{IsText, OneText, ReadsText}
 
 -- a term is all of the text, where so many names are free
 abbrev pub IsTermText : ℕ → List (List ℕ) → List ℕ → Term → Type 0

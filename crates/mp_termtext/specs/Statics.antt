@@ -8,9 +8,9 @@ use Rattle.mp_termtext.specs.declared.raw.RawTerm.TheOpen as layer
 use Rattle.mp_termtext.specs.declared.raw.RawTerm.TheFolds.{fold-RawTerm}
 use Rattle.mp_termtext.specs.declared.raw.RawHyp.{RawHyp}
 use Rattle.mp_termtext.specs.declared.raw.RawSequent.{RawSequent}
-use Rattle.mp_termtext.specs.declared.fail.TextWhy.TheVariants as why
-use Rattle.mp_termtext.specs.declared.fault.Fault.{Fault}
-use Rattle.mp_termtext.specs.Faults.{fault, fault_if, too_many}
+use Rattle.mp_words.specs.declared.fail.TextWhy.TheVariants as why
+use Rattle.mp_words.specs.declared.fault.Fault.{Fault}
+use Rattle.mp_words.specs.Faults.{fault, fault_if, too_many}
 
 abbrev pub or_here : Option ℕ → Bool → Option ℕ
 or_here (Some i) here = Some (1 + i)

@@ -1,4 +1,4 @@
-ghost use Rattle.mp_termtext.specs.Parts.{OneReading};
+ghost use Rattle.mp_words.specs.Parts.{OneReading};
 ghost use Rattle.mp_termtext.specs.Grammar.{IsTerm, StuckTerm, IsBound, StuckBound, IsSequent, StuckSequent};
 ghost use Rattle.mp_termtext.specs.Reading.{OneTermText, OneSequentText};
 ghost use Rattle.mp_termtext.specs.Round.{PrintedSequentIsRead, PrintedTermIsRead};

@@ -4,9 +4,10 @@ ghost use Rattle.mp_termtext.specs.Reading.{ReadsSequent, ReadsTerm};
 
 use crate::statics::{check_sequent, term_fault};
 use crate::value::{build_sequent, build_whole_term};
-use crate::{RawSequent, RawTerm, TextFail, lex_text, whole};
+use crate::{RawSequent, RawTerm};
 use mp_names::Names;
 use mp_term::{Sequent, Term};
+use mp_words::{TextFail, lex_text, whole};
 use std::alloc::Global;
 
 /// Reads a term that is all of the text, where the names `x1` to `x` followed by `scope` are free: `x1` is

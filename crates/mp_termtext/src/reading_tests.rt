@@ -1,12 +1,12 @@
-ghost use Rattle.mp_termtext.specs.Parts.{Lacks};
+ghost use Rattle.mp_words.specs.Parts.{Lacks};
 ghost use Rattle.mp_termtext.specs.Grammar.{IsBinder, begins_binders};
 
-use crate::{
-    Beginning, Binder, ReadFail, Reader, TextErr, TextFail, TextWhy, Word, binders_ahead, lex_text,
-    many, print_sequent, print_term, read_sequent, read_term, repeated,
-};
+use crate::{Binder, binders_ahead, print_sequent, print_term, read_sequent, read_term};
 use mp_logic::{List, Text};
 use mp_names::Names;
+use mp_words::{
+    Beginning, ReadFail, Reader, TextErr, TextFail, TextWhy, Word, lex_text, many, repeated,
+};
 use std::alloc::Global;
 use std::test::Fail;
 

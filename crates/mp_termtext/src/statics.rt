@@ -1,13 +1,13 @@
 ghost use Rattle.std.specs.Prelude.{◌≡◌, ◌+◌, ◌++◌, ℕ, [], None, IfOk, OnOk, min, nat_lt, sum_by, slice_get};
 ghost use Rattle.mp_logic.specs.Trees.{counted};
-ghost use Rattle.mp_termtext.specs.declared.fail.TextWhy.TheVariants as why;
-ghost use Rattle.mp_termtext.specs.Faults.{fault_if, least, least_from, too_many};
+ghost use Rattle.mp_words.specs.declared.fail.TextWhy.TheVariants as why;
+ghost use Rattle.mp_words.specs.Faults.{fault_if, least, least_from, too_many};
 ghost use Rattle.mp_termtext.specs.Statics.{bound_faults_of, bound_term_faults, deep, faults_of, hyp_names, hyps_faults, left_of, level_of, raw_sequent_size_of, raw_size_of, sequent_faults, term_faults, unless_bound};
 
-use crate::fault::{behind, sooner_of};
 use crate::scope::{level_of, push_names};
-use crate::{Fault, RawBound, RawHyp, RawSequent, RawTerm, TextWhy};
+use crate::{RawBound, RawHyp, RawSequent, RawTerm};
 use mp_logic::{List, NoMemory, Sym};
+use mp_words::{Fault, TextWhy, behind, sooner_of};
 use std::alloc::Global;
 
 /// The depth that stands for all that are too great.
@@ -39,7 +39,7 @@ fn check_depth(held: Option<Fault>, depth: u64, left: u64) -> Option<Fault>
 
 // Behind a fault that is held no variable is looked up, so the time to look at a text with very many
 // hypotheses is still linear.
-#[tactic(auto, using(crate::proofs::Soonest::unbound_behind))]
+#[tactic(auto, using(crate::proofs::Unbound::unbound_behind))]
 fn check_variable(
     held: Option<Fault>,
     free: u32,
@@ -58,7 +58,7 @@ fn check_variable(
 }
 
 #[cycle(checking)]
-#[tactic(auto, using(crate::proofs::Soonest::least_from_append))]
+#[tactic(auto, using(mp_words::proofs::Soonest::least_from_append))]
 fn check_in(
     raw: &RawTerm,
     free: u32,
@@ -98,7 +98,7 @@ fn check_in(
 }
 
 #[cycle(checking)]
-#[tactic(auto, using(crate::proofs::Soonest::least_from_append))]
+#[tactic(auto, using(mp_words::proofs::Soonest::least_from_append))]
 fn check_bound(
     raw: &RawBound,
     free: u32,
@@ -160,7 +160,7 @@ fn check_size(held: Option<Fault>, size: u64, left: u64) -> Option<Fault>
 /// The soonest of the fault that is held and those of a term behind its binders that stands by itself, where so many
 /// names are free and which begins where `left` words are left: more than 8 binders, the faults of the term's nodes, and
 /// more than 20,000 nodes.
-#[tactic(auto, using(crate::proofs::Soonest::least_from_append))]
+#[tactic(auto, using(mp_words::proofs::Soonest::least_from_append))]
 pub fn check_bound_term(
     alloc: Global,
     raw: &RawBound,
@@ -177,7 +177,7 @@ pub fn check_bound_term(
 
 /// The least static fault of a term that is all of a text, where so many names are free. None exactly where
 /// it has none.
-#[tactic(auto, using(crate::proofs::Soonest::least_from_append))]
+#[tactic(auto, using(mp_words::proofs::Soonest::least_from_append))]
 pub fn term_fault(alloc: Global, raw: &RawTerm, free: u32) -> Result<Option<Fault>, NoMemory>
     ensures { IfOk result (λ found. found ≡ least (term_faults free raw.now)) }
 {
@@ -229,7 +229,7 @@ fn check_count(hyps: &[RawHyp], held: Option<Fault>) -> Option<Fault>
 
 /// The soonest of the fault that is held and those of a sequent: more than 200 hypotheses, the faults of its
 /// terms, and more than 20,000 nodes.
-#[tactic(auto, using(crate::proofs::Soonest::least_from_append))]
+#[tactic(auto, using(mp_words::proofs::Soonest::least_from_append))]
 pub fn check_sequent(
     alloc: Global,
     raw: &RawSequent,

@@ -1,13 +1,11 @@
 ghost use Rattle.std.specs.Prelude.{◌≡◌, ◌+◌, ◌<◌, ◌≤◌, [], length, IfOk, MatchOption};
-ghost use Rattle.mp_termtext.specs.Parts.{None_of, Lacks, Reads};
+ghost use Rattle.mp_words.specs.Parts.{None_of, Lacks, Reads};
 ghost use Rattle.mp_termtext.specs.Grammar.{IsVariable, IsParam, AreParams, StuckParams, IsBinder, begins_binders, AreBinders, StuckBinders, IsTerm, StuckTerm, AreSubs, StuckSubs, AreBounds, StuckBounds, IsBound, StuckBound, IsHyp, StuckHyp, IsSequent, StuckSequent};
 
-use crate::list::{Reader, listed, separated};
-use crate::parts::{ReadFail, mark, name, stuck};
 use crate::raw::{Binder, RawBound, RawHyp, RawParam, RawSequent, RawTerm};
-use crate::{Mark, Word};
 use mp_logic::{List, Sym};
 use mp_term::Param;
+use mp_words::{Mark, ReadFail, Reader, Word, listed, mark, name, separated, stuck};
 use std::alloc::Global;
 
 /// The variable at the front, by its name and its number, and what is behind it.

@@ -12,11 +12,11 @@ use Rattle.mp_schema.specs.Faults.{are_distinct, has_level}
 use Rattle.mp_schema.specs.Occurrences.{Occurrence, level_of, occurrences_in, occurrences_in_bound}
 use Rattle.mp_schema.proofs.Names.{has-append}
 use Rattle.mp_schema.proofs.Layers.{level_of-Var, occurrences_in-Var, occurrences_in-Op, occurrences_in-Meta, occurrences_in_bound-is}
-use Rattle.mp_termtext.specs.declared.fail.TextWhy.TheVariants as why
-use Rattle.mp_termtext.specs.Faults.{fault_if}
+use Rattle.mp_words.specs.declared.fail.TextWhy.TheVariants as why
+use Rattle.mp_words.specs.Faults.{fault_if}
 use Rattle.mp_termtext.specs.Statics.{each_faults, level_by, names_of, or_here, place_in}
 use Rattle.mp_termtext.proofs.Faultless.{nil_parts, no_fault}
-use Rattle.mp_termtext.specs.declared.raw.RawName.{RawName}
+use Rattle.mp_words.specs.declared.raw.RawName.{RawName}
 use Rattle.mp_theorytext.specs.declared.raw.RawParamPat.{RawParamPat}
 use Rattle.mp_theorytext.specs.declared.raw.RawPatternBound.{RawPatternBound}
 use Rattle.mp_theorytext.specs.declared.raw.RawPattern.{RawPattern, the_lemmas}

@@ -9,11 +9,11 @@ use Rattle.std.proofs.lemmas.Bool.Decides.{nat_tests}
 use Rattle.mp_logic.specs.declared.sym.Sym.{Sym}
 use Rattle.mp_schema.specs.Faults.{same_bool, same_names, is_like_first, is_consistent}
 use Rattle.mp_schema.specs.Occurrences.{Occurrence, first_named}
-use Rattle.mp_termtext.specs.declared.fault.Fault.{Fault}
-use Rattle.mp_termtext.specs.declared.fail.TextWhy.TheVariants as why
-use Rattle.mp_termtext.specs.Faults.{too_many}
+use Rattle.mp_words.specs.declared.fault.Fault.{Fault}
+use Rattle.mp_words.specs.declared.fail.TextWhy.TheVariants as why
+use Rattle.mp_words.specs.Faults.{too_many}
 use Rattle.mp_termtext.proofs.Faultless.{nil_parts, no_fault, not_many}
-use Rattle.mp_termtext.specs.declared.raw.RawName.{RawName}
+use Rattle.mp_words.specs.declared.raw.RawName.{RawName}
 use Rattle.mp_theorytext.specs.declared.uses.First.{First}
 use Rattle.mp_theorytext.specs.Uses.{Argument, Use, list_faults, argument_faults, find_first, first_of, firsts_with, is_like, unless_like, use_faults, uses_faults}
 use Rattle.mp_theorytext.proofs.Agreeing.{used_of, IsFine, AreFine}

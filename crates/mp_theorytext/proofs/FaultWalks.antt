@@ -2,11 +2,11 @@
 use Rattle.std.proofs.Common.{◌≡◌, ◌++◌, ◌+◌, ◌<◌, ℕ, suc, List, [], ◌∷◌, Option, Bool, true, if◌then◌else◌, refl, ap, sym, ◌∙◌, map, drop, length, get_or, drop-cons, add-one, nat_lt, nat_eq, ◌||◌, subst}
 use Rattle.std.specs.List.{flat_map}
 use Rattle.mp_logic.specs.declared.sym.Sym.{Sym}
-use Rattle.mp_termtext.specs.declared.fault.Fault.{Fault}
-use Rattle.mp_termtext.specs.declared.fail.TextWhy.TheVariants as why
-use Rattle.mp_termtext.specs.Faults.{least_from, too_many, fault_if}
+use Rattle.mp_words.specs.declared.fault.Fault.{Fault}
+use Rattle.mp_words.specs.declared.fail.TextWhy.TheVariants as why
+use Rattle.mp_words.specs.Faults.{least_from, too_many, fault_if}
 use Rattle.mp_termtext.specs.Statics.{Checked, each_faults}
-use Rattle.mp_termtext.proofs.Soonest.{least_from_append}
+use Rattle.mp_words.proofs.Soonest.{least_from_append}
 use Rattle.mp_theorytext.specs.declared.raw.RawItem.{RawItem}
 use Rattle.mp_theorytext.specs.declared.raw.RawSchema.{RawSchema}
 use Rattle.mp_schema.specs.Conditions.{has}

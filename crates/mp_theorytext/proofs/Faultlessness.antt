@@ -10,11 +10,11 @@ use Rattle.mp_schema.specs.Conditions.{has, has_all, context_names, has_two_cont
 use Rattle.mp_schema.specs.Limits.{few_of_schema, is_shallow_schema, is_small_schema}
 use Rattle.mp_schema.specs.Faults.{is_closed, is_listed, is_single, rule_is_few, rule_is_shallow, rule_is_small, rule_is_closed, rule_is_listed, rule_is_single, rule_has_few_contexts, rule_is_framed, rule_is_on_variables, rule_is_consistent, rule_is_filled, rule_fault_of, occurrences_of_rule}
 use Rattle.mp_schema.specs.Occurrences.{occurrences_in_schema}
-use Rattle.mp_termtext.specs.declared.fail.TextWhy.TheVariants as why
-use Rattle.mp_termtext.specs.declared.fault.Fault.{Fault}
-use Rattle.mp_termtext.specs.Faults.{fault_if, too_many}
+use Rattle.mp_words.specs.declared.fail.TextWhy.TheVariants as why
+use Rattle.mp_words.specs.declared.fault.Fault.{Fault}
+use Rattle.mp_words.specs.Faults.{fault_if, too_many}
 use Rattle.mp_termtext.proofs.Faultless.{nil_parts, no_fault, not_many}
-use Rattle.mp_termtext.specs.declared.raw.RawName.{RawName}
+use Rattle.mp_words.specs.declared.raw.RawName.{RawName}
 use Rattle.mp_theorytext.specs.declared.raw.RawSchema.{RawSchema}
 use Rattle.mp_theorytext.specs.declared.raw.RawRule.{RawRule}
 use Rattle.mp_theorytext.specs.Scopes.{names_in}

@@ -16,11 +16,11 @@ use Rattle.mp_schema.specs.Conditions.{below, below_bound}
 use Rattle.mp_schema.specs.Limits.{few_of, few_of_bound, pattern_depth_of, pattern_depth_of_bound}
 use Rattle.mp_schema.proofs.Layers.{below-Var, below-Op, below-Meta, below_bound-is, few_of-Var, few_of-Op, few_of-Meta, few_of_bound-is, pattern_depth_of-Var, pattern_depth_of-Op, pattern_depth_of-Meta, pattern_depth_of_bound-is}
 use Rattle.mp_termtext.specs.declared.raw.Binder.{Binder}
-use Rattle.mp_termtext.specs.declared.fault.Fault.{Fault}
-use Rattle.mp_termtext.specs.Faults.{too_many}
+use Rattle.mp_words.specs.declared.fault.Fault.{Fault}
+use Rattle.mp_words.specs.Faults.{too_many}
 use Rattle.mp_termtext.specs.Statics.{deep, each_faults, level_by, names_of, place_in, unless_bound}
 use Rattle.mp_termtext.proofs.Faultless.{nil_parts, not_deep, not_many, place_below}
-use Rattle.mp_termtext.specs.declared.raw.RawName.{RawName}
+use Rattle.mp_words.specs.declared.raw.RawName.{RawName}
 use Rattle.mp_theorytext.specs.declared.raw.RawParamPat.{RawParamPat}
 use Rattle.mp_theorytext.specs.declared.raw.RawPatternBound.{RawPatternBound}
 use Rattle.mp_theorytext.specs.declared.raw.RawPattern.{RawPattern}

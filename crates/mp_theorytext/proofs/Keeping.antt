@@ -13,9 +13,9 @@ use Rattle.mp_schema.specs.Limits.{few_of_item, few_of_schema, is_shallow_item, 
 use Rattle.mp_schema.specs.Faults.{item_closed, is_closed, all_listed, item_listed, is_listed, lists_apart, is_single, on_variables, are_distinct}
 use Rattle.mp_schema.specs.Occurrences.{Occurrence, occurrences_in, occurrences_in_item, occurrences_in_schema}
 use Rattle.mp_schema.proofs.Names.{has-append}
-use Rattle.mp_termtext.specs.declared.fail.TextWhy.TheVariants as why
-use Rattle.mp_termtext.specs.declared.fault.Fault.{Fault}
-use Rattle.mp_termtext.specs.Faults.{fault_if, too_many}
+use Rattle.mp_words.specs.declared.fail.TextWhy.TheVariants as why
+use Rattle.mp_words.specs.declared.fault.Fault.{Fault}
+use Rattle.mp_words.specs.Faults.{fault_if, too_many}
 use Rattle.mp_termtext.proofs.Faultless.{nil_parts, no_fault, not_many}
 use Rattle.mp_theorytext.specs.declared.raw.RawItem.{RawItem}
 use Rattle.mp_theorytext.specs.declared.raw.RawItem.TheVariants as item

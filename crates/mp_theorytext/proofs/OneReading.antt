@@ -5,14 +5,14 @@ use Rattle.mp_term.specs.declared.term.Param.{Param}
 use Rattle.mp_term.specs.declared.term.Param.TheVariants as param
 use Rattle.mp_schema.specs.declared.pattern.ParamPat.{ParamPat}
 use Rattle.mp_schema.specs.declared.pattern.ParamPat.TheVariants.{Lit, Hole}
-use Rattle.mp_termtext.specs.declared.word.Word.{Word}
-use Rattle.mp_termtext.specs.declared.word.Mark.TheVariants as mark
-use Rattle.mp_termtext.specs.declared.word.Keyword.TheVariants as keyword
-use Rattle.mp_termtext.specs.Parts.{Lacks, Ended, StuckEnded, IsNameAt, IsCapAt, Both, StuckBoth, After, StuckAfter, StuckOptional, Separated, StuckSeparated, IsMark, IsWord, IsName, IsCapVar, HasOne, AreApart, HasOneStop, OneReading}
+use Rattle.mp_words.specs.declared.word.Word.{Word}
+use Rattle.mp_words.specs.declared.word.Mark.TheVariants as mark
+use Rattle.mp_words.specs.declared.word.Keyword.TheVariants as keyword
+use Rattle.mp_words.specs.Parts.{Lacks, Ended, StuckEnded, IsNameAt, IsCapAt, Both, StuckBoth, After, StuckAfter, StuckOptional, Separated, StuckSeparated, IsMark, IsWord, IsName, IsCapVar, HasOne, AreApart, HasOneStop, OneReading}
 use Rattle.mp_termtext.specs.Grammar.{IsVariable, IsParamWord}
 use Rattle.mp_termtext.proofs.OneTerm.{one_binders}
-use Rattle.mp_termtext.proofs.Combine.{one_mark, one_word, two_marks, one_name, one_name_at, one_cap_at, one_cap_var, one_placed, one_ended, one_both, one_after, one_optional, one_many, one_separated, one_listed}
-use Rattle.mp_termtext.specs.declared.raw.RawName.{RawName}
+use Rattle.mp_words.proofs.Combine.{one_mark, one_word, two_marks, one_name, one_name_at, one_cap_at, one_cap_var, one_placed, one_ended, one_both, one_after, one_optional, one_many, one_separated, one_listed}
+use Rattle.mp_words.specs.declared.raw.RawName.{RawName}
 use Rattle.mp_theorytext.specs.declared.raw.RawPatternBound.{RawPatternBound}
 use Rattle.mp_theorytext.specs.declared.raw.RawPattern.{RawPattern, Var, Op, Meta}
 use Rattle.mp_theorytext.specs.declared.raw.RawItem.TheVariants as item

@@ -1,7 +1,7 @@
 -- Induction over patterns as they are written, with a fact for each body of an operator and each argument.
 use Rattle.std.proofs.Common.{ℕ, List, [], ◌∷◌, map, sym, subst}
 use Rattle.mp_logic.specs.declared.sym.Sym.{Sym}
-use Rattle.mp_termtext.specs.declared.raw.RawName.{RawName}
+use Rattle.mp_words.specs.declared.raw.RawName.{RawName}
 use Rattle.mp_theorytext.specs.declared.raw.RawParamPat.{RawParamPat}
 use Rattle.mp_theorytext.specs.declared.raw.RawPatternBound.{RawPatternBound, RawPatternBound-F}
 use Rattle.mp_theorytext.specs.declared.raw.RawPattern.{RawPattern, RawPattern-F, ind-RawPattern, roll-RawPattern, map-RawPattern}

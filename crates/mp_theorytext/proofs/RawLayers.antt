@@ -3,9 +3,9 @@ use Rattle.std.proofs.Common.{◌≡◌, ℕ, ◌+◌, ◌++◌, List, map, leng
 use Rattle.std.specs.Prelude.{unwrap_or}
 use Rattle.mp_logic.specs.declared.sym.Sym.{Sym}
 use Rattle.mp_schema.specs.declared.pattern.Pattern as pat
-use Rattle.mp_termtext.specs.Faults.{too_many}
+use Rattle.mp_words.specs.Faults.{too_many}
 use Rattle.mp_termtext.specs.Statics.{deep, each_faults, names_of, unless_bound}
-use Rattle.mp_termtext.specs.declared.raw.RawName.{RawName}
+use Rattle.mp_words.specs.declared.raw.RawName.{RawName}
 use Rattle.mp_theorytext.specs.declared.raw.RawParamPat.{RawParamPat}
 use Rattle.mp_theorytext.specs.declared.raw.RawPatternBound.{RawPatternBound}
 use Rattle.mp_theorytext.specs.declared.raw.RawPattern.{RawPattern, the_lemmas}

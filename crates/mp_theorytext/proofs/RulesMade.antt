@@ -14,8 +14,8 @@ use Rattle.mp_theory.specs.declared.rule.Rule.{Rule}
 use Rattle.mp_theory.specs.declared.theory.TheoryErr.{TheoryErr}
 use Rattle.mp_theory.specs.declared.theory.TheoryErr.TheVariants as err
 use Rattle.mp_theory.specs.Tables.{has_name, refusal_by, refusal_of, IsRefusal}
-use Rattle.mp_termtext.specs.declared.fail.TextWhy.TheVariants as why
-use Rattle.mp_termtext.specs.Faults.{fault_if}
+use Rattle.mp_words.specs.declared.fail.TextWhy.TheVariants as why
+use Rattle.mp_words.specs.Faults.{fault_if}
 use Rattle.mp_termtext.proofs.Faultless.{nil_parts, no_fault}
 use Rattle.mp_theorytext.specs.declared.raw.RawRule.{RawRule}
 use Rattle.mp_theorytext.specs.Statics.{rule_faults, rules_faults}

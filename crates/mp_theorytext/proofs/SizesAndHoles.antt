@@ -8,7 +8,7 @@ use Rattle.mp_schema.specs.declared.pattern.ParamPat.TheVariants.{Lit, Hole}
 use Rattle.mp_schema.specs.Limits.{pattern_size_of, pattern_size_of_bound, item_size_of, schema_size_of}
 use Rattle.mp_schema.specs.Occurrences.{hole_in_param, holes_in, holes_in_bound, holes_in_item, holes_in_schema}
 use Rattle.mp_schema.proofs.Layers.{pattern_size_of-Var, pattern_size_of-Op, pattern_size_of-Meta, pattern_size_of_bound-is, holes_in-Var, holes_in-Op, holes_in-Meta, holes_in_bound-is}
-use Rattle.mp_termtext.specs.declared.raw.RawName.{RawName}
+use Rattle.mp_words.specs.declared.raw.RawName.{RawName}
 use Rattle.mp_theorytext.specs.declared.raw.RawParamPat.{RawParamPat}
 use Rattle.mp_theorytext.specs.declared.raw.RawPatternBound.{RawPatternBound}
 use Rattle.mp_theorytext.specs.declared.raw.RawPattern.{RawPattern}

@@ -11,10 +11,10 @@ use Rattle.mp_names.specs.Sets.{is_met, place_of, with_met}
 use Rattle.mp_names.proofs.Meeting.{eq_comm}
 use Rattle.mp_names.proofs.Places.{found_at}
 use Rattle.mp_schema.specs.Faults.{same_names}
-use Rattle.mp_termtext.specs.declared.fault.Fault.{Fault}
-use Rattle.mp_termtext.specs.Faults.{least_from}
-use Rattle.mp_termtext.proofs.Soonest.{least_from_append}
-use Rattle.mp_termtext.specs.declared.raw.RawName.{RawName}
+use Rattle.mp_words.specs.declared.fault.Fault.{Fault}
+use Rattle.mp_words.specs.Faults.{least_from}
+use Rattle.mp_words.proofs.Soonest.{least_from_append}
+use Rattle.mp_words.specs.declared.raw.RawName.{RawName}
 use Rattle.mp_theorytext.specs.declared.raw.RawPatternBound.{RawPatternBound}
 use Rattle.mp_theorytext.specs.declared.raw.RawParamPat.{RawParamPat}
 use Rattle.mp_theorytext.specs.declared.raw.RawPattern.{RawPattern, the_lemmas}

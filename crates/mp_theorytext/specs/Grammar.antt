@@ -7,11 +7,11 @@ use Rattle.std.specs.Prelude.{◌≡◌, ◌⊎◌, ℕ, List, [], ◌∷◌, le
 use Rattle.mp_logic.specs.declared.sym.Sym.{Sym}
 use Rattle.mp_schema.specs.declared.pattern.ParamPat.{ParamPat}
 use Rattle.mp_schema.specs.declared.pattern.ParamPat.TheVariants.{Lit, Hole}
-use Rattle.mp_termtext.specs.declared.word.Word.{Word}
-use Rattle.mp_termtext.specs.declared.word.Mark.TheVariants as mark
-use Rattle.mp_termtext.specs.declared.word.Keyword.TheVariants as keyword
+use Rattle.mp_words.specs.declared.word.Word.{Word}
+use Rattle.mp_words.specs.declared.word.Mark.TheVariants as mark
+use Rattle.mp_words.specs.declared.word.Keyword.TheVariants as keyword
 use Rattle.mp_termtext.specs.declared.raw.Binder.{Binder}
-use Rattle.mp_termtext.specs.declared.raw.RawName.{RawName}
+use Rattle.mp_words.specs.declared.raw.RawName.{RawName}
 use Rattle.mp_theorytext.specs.declared.raw.RawParamPat.{RawParamPat}
 use Rattle.mp_theorytext.specs.declared.raw.RawPatternBound.{RawPatternBound}
 use Rattle.mp_theorytext.specs.declared.raw.RawPattern.{RawPattern, Var, Op, Meta}
@@ -19,7 +19,7 @@ use Rattle.mp_theorytext.specs.declared.raw.RawItem.{RawItem}
 use Rattle.mp_theorytext.specs.declared.raw.RawItem.TheVariants as item
 use Rattle.mp_theorytext.specs.declared.raw.RawSchema.{RawSchema}
 use Rattle.mp_theorytext.specs.declared.raw.RawRule.{RawRule}
-use Rattle.mp_termtext.specs.Parts.{No, None_of, Lacks, IsMark, IsWord, IsName, IsNameAt, IsCapAt, IsCapVar, Ended, StuckEnded, Both, StuckBoth, After, StuckAfter, Optional, StuckOptional, Separated, StuckSeparated, Listed, StuckListed, Many, StuckMany}
+use Rattle.mp_words.specs.Parts.{No, None_of, Lacks, IsMark, IsWord, IsName, IsNameAt, IsCapAt, IsCapVar, Ended, StuckEnded, Both, StuckBoth, After, StuckAfter, Optional, StuckOptional, Separated, StuckSeparated, Listed, StuckListed, Many, StuckMany}
 use Rattle.mp_termtext.specs.Grammar.{IsVariable, IsParamWord, AreBinders, StuckBinders}
 
 abbrev pub IsParamPatWord : ParamPat → List Word → List Word → Type 0

@@ -1,9 +1,9 @@
 -- What the reader of theories answers of a text.
 use Rattle.std.specs.Prelude.{ℕ, List, Result}
 use Rattle.mp_theory.specs.declared.rule.Rule.{Rule}
-use Rattle.mp_termtext.specs.declared.fail.TextErr.{TextErr}
-use Rattle.mp_termtext.specs.declared.fail.TextFail.{TextFail}
-use Rattle.mp_termtext.specs.Texts.{IsText, IsFaulty, OneText, ReadsText}
+use Rattle.mp_words.specs.declared.fail.TextErr.{TextErr}
+use Rattle.mp_words.specs.declared.fail.TextFail.{TextFail}
+use Rattle.mp_words.specs.Texts.{IsText, IsFaulty, OneText, ReadsText}
 use Rattle.mp_theorytext.specs.Grammar.{IsTheory, StuckTheory}
 use Rattle.mp_theorytext.specs.Statics.{theory_faults}
 use Rattle.mp_theorytext.specs.Values.{rules_of}

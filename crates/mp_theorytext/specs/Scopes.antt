@@ -2,7 +2,7 @@
 use Rattle.std.specs.Prelude.{ℕ, ◌++◌, List, [], ◌∷◌, map, Option, None}
 use Rattle.mp_logic.specs.declared.sym.Sym.{Sym}
 use Rattle.mp_termtext.specs.Statics.{level_of}
-use Rattle.mp_termtext.specs.declared.raw.RawName.{RawName}
+use Rattle.mp_words.specs.declared.raw.RawName.{RawName}
 use Rattle.mp_theorytext.specs.declared.raw.RawItem.{RawItem}
 use Rattle.mp_theorytext.specs.declared.raw.RawItem.TheVariants as item
 

@@ -6,10 +6,10 @@ use Rattle.mp_schema.specs.declared.pattern.ParamPat.{ParamPat}
 use Rattle.mp_schema.specs.declared.pattern.ParamPat.TheVariants.{Lit, Hole}
 use Rattle.mp_schema.specs.Conditions.{has}
 use Rattle.mp_schema.specs.Faults.{same_bool, same_names}
-use Rattle.mp_termtext.specs.declared.fail.TextWhy.TheVariants as why
-use Rattle.mp_termtext.specs.declared.fault.Fault.{Fault}
-use Rattle.mp_termtext.specs.Faults.{fault, fault_if, too_many}
-use Rattle.mp_termtext.specs.declared.raw.RawName.{RawName}
+use Rattle.mp_words.specs.declared.fail.TextWhy.TheVariants as why
+use Rattle.mp_words.specs.declared.fault.Fault.{Fault}
+use Rattle.mp_words.specs.Faults.{fault, fault_if, too_many}
+use Rattle.mp_words.specs.declared.raw.RawName.{RawName}
 use Rattle.mp_theorytext.specs.declared.raw.RawParamPat.{RawParamPat}
 use Rattle.mp_theorytext.specs.declared.raw.RawPatternBound.{RawPatternBound, RawPatternBound-F, fold-RawPatternBound}
 use Rattle.mp_theorytext.specs.declared.raw.RawPattern.{RawPattern, RawPattern-F}

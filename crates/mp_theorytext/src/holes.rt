@@ -1,7 +1,7 @@
 ghost use Rattle.std.specs.Prelude.{◌≡◌, ◌++◌, IfOk, OnOk, map};
 ghost use Rattle.std.specs.List.{flat_map};
 ghost use Rattle.mp_names.specs.Sets.{Met};
-ghost use Rattle.mp_termtext.specs.Faults.{least_from};
+ghost use Rattle.mp_words.specs.Faults.{least_from};
 ghost use Rattle.mp_theorytext.specs.Scopes.{names_in};
 ghost use Rattle.mp_theorytext.specs.Uses.{hole_faults, holes_in_param, raw_holes, raw_bound_holes, raw_item_holes, raw_schema_holes};
 
@@ -9,7 +9,7 @@ use crate::raw::{RawItem, RawParamPat, RawPattern, RawPatternBound, RawSchema};
 use mp_logic::{List, NoMemory};
 use mp_names::NameSet;
 use mp_schema::ParamPat;
-use mp_termtext::{Fault, RawName, TextWhy, sooner_of};
+use mp_words::{Fault, RawName, TextWhy, sooner_of};
 use std::alloc::Global;
 
 /// Appends the holes of schemata, in the order of the text.

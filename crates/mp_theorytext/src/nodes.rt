@@ -1,12 +1,13 @@
 ghost use Rattle.std.specs.Prelude.{◌≡◌, ◌++◌, ℕ, IfOk, OnOk, map, min};
-ghost use Rattle.mp_termtext.specs.Faults.{least_from};
+ghost use Rattle.mp_words.specs.Faults.{least_from};
 ghost use Rattle.mp_termtext.specs.Statics.{deep, each_faults, unless_bound};
 ghost use Rattle.mp_theorytext.specs.Scopes.{level_in};
 ghost use Rattle.mp_theorytext.specs.Statics.{bound_node_faults, node_faults};
 
 use crate::raw::{RawPattern, RawPatternBound};
 use mp_logic::{NoMemory, Sym};
-use mp_termtext::{Fault, TextWhy, behind, level_of, push_names, sooner_of};
+use mp_termtext::{level_of, push_names};
+use mp_words::{Fault, TextWhy, behind, sooner_of};
 
 /// The depth that stands for all that are too great.
 const TOO_DEEP: u64 = 201;
@@ -31,7 +32,7 @@ fn check_depth(held: Option<Fault>, depth: u64, left: u64) -> Option<Fault>
 
 // Behind a fault that is held no variable is looked up, so the time to look at a text with very many
 // hypotheses is still linear.
-#[tactic(auto, using(mp_termtext::proofs::Soonest::unbound_behind))]
+#[tactic(auto, using(mp_termtext::proofs::Unbound::unbound_behind))]
 fn check_variable(held: Option<Fault>, env: &[Sym], name: Sym, left: u64) -> Option<Fault>
     ensures { result ≡ least_from held (unless_bound left (level_in env.now name)) }
 {
@@ -45,7 +46,7 @@ fn check_variable(held: Option<Fault>, env: &[Sym], name: Sym, left: u64) -> Opt
 /// The soonest of the fault that is held and those of the nodes of a pattern at this depth, where the names
 /// `env` are bound. TOO_DEEP stands for all depths that are too great.
 #[cycle(checking)]
-#[tactic(auto, using(mp_termtext::proofs::Soonest::least_from_append))]
+#[tactic(auto, using(mp_words::proofs::Soonest::least_from_append))]
 pub(crate) fn check_nodes(
     raw: &RawPattern,
     env: &mut Vec<Sym>,
@@ -84,7 +85,7 @@ pub(crate) fn check_nodes(
 }
 
 #[cycle(checking)]
-#[tactic(auto, using(mp_termtext::proofs::Soonest::least_from_append))]
+#[tactic(auto, using(mp_words::proofs::Soonest::least_from_append))]
 fn check_bounds_nodes(
     subs: &[RawPatternBound],
     env: &mut Vec<Sym>,
@@ -102,7 +103,7 @@ fn check_bounds_nodes(
 }
 
 #[cycle(checking)]
-#[tactic(auto, using(mp_termtext::proofs::Soonest::least_from_append))]
+#[tactic(auto, using(mp_words::proofs::Soonest::least_from_append))]
 fn check_bound_nodes(
     raw: &RawPatternBound,
     env: &mut Vec<Sym>,
@@ -125,7 +126,7 @@ fn check_bound_nodes(
 
 /// The soonest of the fault that is held and those of the nodes of arguments at this depth.
 #[cycle(checking)]
-#[tactic(auto, using(mp_termtext::proofs::Soonest::least_from_append))]
+#[tactic(auto, using(mp_words::proofs::Soonest::least_from_append))]
 pub(crate) fn check_argument_nodes(
     args: &[RawPattern],
     env: &mut Vec<Sym>,

@@ -1,14 +1,15 @@
 ghost use Rattle.std.specs.Prelude.{◌<◌, ◌≤◌, length, IfOk};
-ghost use Rattle.mp_termtext.specs.Parts.{IsCapAt, Lacks, Reads};
+ghost use Rattle.mp_words.specs.Parts.{IsCapAt, Lacks, Reads};
 ghost use Rattle.mp_theorytext.specs.Grammar.{IsParamPat, StuckParamPat, AreParamPats, StuckParamPats, AreContexts, StuckContexts, IsPattern, StuckPattern, AreArgs, StuckArgs, AreArguments, StuckArguments, AreSubs, StuckSubs, AreBounds, StuckBounds, IsBound, StuckBound};
 
 use crate::raw::{RawParamPat, RawPattern, RawPatternBound};
 use mp_logic::List;
 use mp_schema::ParamPat;
 use mp_term::Param;
-use mp_termtext::{
-    Mark, RawName, ReadFail, Reader, Word, capital_at, capital_variable, mark, name, parse_binders,
-    separated, stuck, variable,
+use mp_termtext::{parse_binders, variable};
+use mp_words::{
+    Mark, RawName, ReadFail, Reader, Word, capital_at, capital_variable, mark, name, separated,
+    stuck,
 };
 use std::alloc::Global;
 

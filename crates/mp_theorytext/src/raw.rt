@@ -1,6 +1,7 @@
 use mp_logic::{List, Sym};
 use mp_schema::ParamPat;
-use mp_termtext::{Binder, RawName};
+use mp_termtext::Binder;
+use mp_words::RawName;
 
 /// A parameter of a pattern as it is written, and how many words are left where it begins. The name of a hole is
 /// its second word.

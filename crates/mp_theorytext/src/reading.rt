@@ -6,8 +6,8 @@ use crate::making::build_theory;
 use crate::rule::parse_theory;
 use crate::statics::theory_fault;
 use mp_names::Names;
-use mp_termtext::{TextFail, lex_text};
 use mp_theory::Theory;
+use mp_words::{TextFail, lex_text};
 use std::alloc::Global;
 
 /// Reads a theory that is all of the text: its rules, in the order of the text. Bad has the one fault of the text:

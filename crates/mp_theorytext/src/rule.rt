@@ -1,11 +1,11 @@
 ghost use Rattle.std.specs.Prelude.{◌<◌, ◌≤◌, [], length, IfOk};
-ghost use Rattle.mp_termtext.specs.Parts.{Reads};
+ghost use Rattle.mp_words.specs.Parts.{Reads};
 ghost use Rattle.mp_theorytext.specs.Grammar.{IsHypothesis, StuckHypothesis, IsContext, StuckContext, IsItem, StuckItem, IsSchema, StuckSchema, IsRuleName, StuckRuleName, IsRule, StuckRule, IsTheory, StuckTheory};
 
 use crate::pattern::{Context, parse_arguments, parse_contexts, parse_pattern};
 use crate::raw::{RawItem, RawPattern, RawRule, RawSchema};
 use mp_logic::{List, Sym};
-use mp_termtext::{
+use mp_words::{
     Keyword, Mark, RawName, ReadFail, Reader, Word, keyword, listed, many, mark, name, name_at,
     stuck,
 };

@@ -3,7 +3,7 @@ ghost use Rattle.mp_schema.specs.Conditions.{has};
 ghost use Rattle.mp_theorytext.specs.Scopes.{names_in};
 
 use mp_logic::Sym;
-use mp_termtext::RawName;
+use mp_words::RawName;
 
 pub(crate) fn has_name(names: &[Sym], name: Sym) -> bool
     ensures { result ≡ has names.now name }

@@ -1,8 +1,8 @@
 ghost use Rattle.std.specs.Prelude.{◌≡◌, ◌++◌, [], ℕ, IfOk, OnOk, length, nat_lt, if◌then◌else◌};
 ghost use Rattle.std.specs.List.{flat_map};
 ghost use Rattle.mp_logic.specs.Trees.{counted};
-ghost use Rattle.mp_termtext.specs.declared.fail.TextWhy.TheVariants as why;
-ghost use Rattle.mp_termtext.specs.Faults.{fault_if, least, least_from, too_many};
+ghost use Rattle.mp_words.specs.declared.fail.TextWhy.TheVariants as why;
+ghost use Rattle.mp_words.specs.Faults.{fault_if, least, least_from, too_many};
 ghost use Rattle.mp_names.specs.Sets.{is_met, with_met};
 ghost use Rattle.mp_theorytext.specs.Scopes.{contexts_past, contexts_behind, env_past, env_behind, names_in};
 ghost use Rattle.mp_theorytext.specs.Statics.{concl_item_faults, contexts_of, item_faults, item_left, item_node_faults, items_faults, premise_item_faults, premises_faults, rule_faults, rules_faults, schema_faults, theory_faults, twice_faults};
@@ -16,7 +16,7 @@ use crate::size::schema_size;
 use crate::uses::{Firsts, Place, check_argument_uses, check_use, check_uses};
 use mp_logic::{List, NoMemory, Sym};
 use mp_names::NameSet;
-use mp_termtext::{Fault, RawName, TextWhy, behind, sooner_of};
+use mp_words::{Fault, RawName, TextWhy, behind, sooner_of};
 use std::alloc::Global;
 
 /// The most premises of a rule.

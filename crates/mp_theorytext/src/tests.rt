@@ -1,8 +1,9 @@
 use crate::read_theory;
 use mp_logic::NoMemory;
 use mp_names::Names;
-use mp_termtext::{TextErr, TextFail, TextWhy, push_bytes};
+use mp_termtext::push_bytes;
 use mp_theory::Theory;
+use mp_words::{TextErr, TextFail, TextWhy};
 use std::alloc::Global;
 use std::test::Fail;
 

@@ -5,7 +5,8 @@ ghost use Rattle.mp_theorytext.specs.Values.{in_32_bits, each_value, pattern_of,
 use crate::raw::{RawItem, RawParamPat, RawPattern, RawPatternBound, RawSchema};
 use mp_logic::{List, NoMemory, Sym};
 use mp_schema::{Item, PBound, ParamPat, Pattern, Schema};
-use mp_termtext::{RawName, level_of, push_names};
+use mp_termtext::{level_of, push_names};
+use mp_words::RawName;
 use std::alloc::Global;
 
 // No number of a rule that keeps the static rules is greater.

@@ -1,4 +1,4 @@
-use Rattle.mp_termtext.proofs.Answering.{one_text}
+use Rattle.mp_words.proofs.Answering.{one_text}
 use Rattle.mp_drill.specs.ScheduleGrammar.{IsSchedule, StuckSchedule}
 use Rattle.mp_drill.specs.ScheduleStatics.{schedule_faults}
 use Rattle.mp_drill.specs.ScheduleValues.{schedule_of}

@@ -2,7 +2,7 @@ use Rattle.std.proofs.Common.{rules, [], sym, subst, ◌∙◌}
 use Rattle.mp_drill.specs.ScheduleGrammar.{IsSchedule, StuckSchedule}
 use Rattle.mp_drill.specs.ScheduleStatics.{schedule_faults}
 use Rattle.mp_drill.specs.ScheduleValues.{schedule_of, EachInRange}
-use Rattle.mp_termtext.proofs.Answering.{broken_text, lexical_text, none_least, stuck_text, text_is}
+use Rattle.mp_words.proofs.Answering.{broken_text, lexical_text, none_least, stuck_text, text_is}
 use Rattle.mp_drill.proofs.ScheduleInRange.{no_event_fault, sections_in_range}
 use Rattle.mp_drill.proofs.reading.read_schedule.Goals as goal
 

@@ -1,5 +1,5 @@
 use Rattle.std.proofs.Common.{◌≡◌, drop}
-use Rattle.mp_termtext.specs.Faults.{least_from}
+use Rattle.mp_words.specs.Faults.{least_from}
 use Rattle.mp_drill.specs.ScheduleStatics.{events_faults}
 use Rattle.mp_drill.proofs.statics.check_events.Given as goal
 

@@ -1,5 +1,5 @@
 use Rattle.std.proofs.Common.{[], ap, take, ◌∙◌}
-use Rattle.mp_termtext.specs.Faults.{least_from}
+use Rattle.mp_words.specs.Faults.{least_from}
 use Rattle.mp_drill.specs.ScheduleStatics.{events_faults}
 use Rattle.mp_drill.proofs.ScheduleFaults.{names_of, met_next, sections_next}
 use Rattle.mp_drill.proofs.statics.schedule_fault.Goals as goal

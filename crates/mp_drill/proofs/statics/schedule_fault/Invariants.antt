@@ -1,6 +1,6 @@
 use Rattle.std.proofs.Common.{◌≡◌, ◌++◌, take, drop}
 use Rattle.mp_names.specs.Sets.{Met}
-use Rattle.mp_termtext.specs.Faults.{least, least_from}
+use Rattle.mp_words.specs.Faults.{least, least_from}
 use Rattle.mp_drill.specs.ScheduleStatics.{sections_faults, schedule_faults}
 use Rattle.mp_drill.proofs.ScheduleFaults.{names_of}
 use Rattle.mp_drill.proofs.statics.schedule_fault.Given as goal

@@ -1,9 +1,9 @@
 use Rattle.std.proofs.Common.{◌∷◌, [], List, refl, ap, sym, subst, ◌∙◌, length, not, arith}
 use Rattle.mp_scripttext.specs.declared.raw.RawStrategy.{RawStrategy}
 use Rattle.mp_scripttext.specs.Grammar.{IsChain, StuckStep, StuckStrategy, StuckChain, id, step, chain, last, more, no_strategy, in_step, in_chain, behind_chain, in_strategy, in_others}
-use Rattle.mp_termtext.specs.Parts.{No, IsWord}
-use Rattle.mp_termtext.specs.declared.word.Keyword.TheVariants as keyword
-use Rattle.mp_termtext.proofs.Steps.{fails_on, stuck_at, goes_next}
+use Rattle.mp_words.specs.Parts.{No, IsWord}
+use Rattle.mp_words.specs.declared.word.Keyword.TheVariants as keyword
+use Rattle.mp_words.proofs.Steps.{fails_on, stuck_at, goes_next}
 use Rattle.mp_scripttext.proofs.Found.{where_none, where_some}
 use Rattle.mp_scripttext.proofs.chain.+parsing.Goals as goal
 

@@ -1,5 +1,5 @@
 use Rattle.std.proofs.Common.{◌++◌, ◌*◌, ◌+◌, ◌≤◌, List, length}
-use Rattle.mp_termtext.specs.declared.word.Word.{Word}
+use Rattle.mp_words.specs.declared.word.Word.{Word}
 use Rattle.mp_scripttext.specs.declared.raw.RawStrategy.{RawStrategy}
 use Rattle.mp_scripttext.specs.Grammar.{IsChain, StuckChain}
 use Rattle.mp_scripttext.proofs.chain.+parsing.Given as goal

@@ -1,4 +1,4 @@
-use Rattle.mp_termtext.proofs.Answering.{one_text}
+use Rattle.mp_words.proofs.Answering.{one_text}
 use Rattle.mp_scripttext.specs.Grammar.{IsScript, StuckScript}
 use Rattle.mp_scripttext.specs.Statics.{script_faults}
 use Rattle.mp_scripttext.specs.Values.{script_of}

@@ -1,5 +1,5 @@
 use Rattle.std.proofs.Common.{rules, sym, ◌∙◌}
-use Rattle.mp_termtext.proofs.Answering.{broken_text, lexical_text, none_least, stuck_text, text_is}
+use Rattle.mp_words.proofs.Answering.{broken_text, lexical_text, none_least, stuck_text, text_is}
 use Rattle.mp_scripttext.specs.Grammar.{IsScript, StuckScript}
 use Rattle.mp_scripttext.specs.Statics.{script_faults}
 use Rattle.mp_scripttext.specs.Values.{script_of}

@@ -1,6 +1,6 @@
 use Rattle.std.proofs.Common.{ap, sym}
 use Rattle.std.specs.List.{flat_map}
-use Rattle.mp_termtext.specs.Faults.{least_from}
+use Rattle.mp_words.specs.Faults.{least_from}
 use Rattle.mp_termtext.proofs.FaultSteps.{flat_next}
 use Rattle.mp_scripttext.specs.Statics.{step_faults}
 use Rattle.mp_scripttext.specs.Strategies.{strategy_of}

@@ -1,6 +1,6 @@
 use Rattle.std.proofs.Common.{◌≡◌, drop, take}
 use Rattle.mp_names.specs.Sets.{Met}
-use Rattle.mp_termtext.specs.Faults.{least, least_from}
+use Rattle.mp_words.specs.Faults.{least, least_from}
 use Rattle.mp_scripttext.specs.Statics.{entries_faults, script_faults}
 use Rattle.mp_scripttext.proofs.EntryWalks.{goal_names}
 use Rattle.mp_scripttext.proofs.statics.script_fault.Given as goal

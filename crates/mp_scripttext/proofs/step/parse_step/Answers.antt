@@ -1,5 +1,5 @@
 use Rattle.std.proofs.Common.{inl, inr, rules}
-use Rattle.mp_termtext.proofs.Steps.{failed_on}
+use Rattle.mp_words.proofs.Steps.{failed_on}
 use Rattle.mp_scripttext.specs.Grammar.{StuckPlace, StuckAllGiven, IsStep, StuckStep}
 use Rattle.mp_scripttext.proofs.step.parse_step.Goals as goal
 

@@ -1,5 +1,5 @@
 use Rattle.std.proofs.Common.{◌≡◌, [], drop, map, take}
-use Rattle.mp_termtext.specs.Faults.{least_from}
+use Rattle.mp_words.specs.Faults.{least_from}
 use Rattle.mp_scripttext.specs.Statics.{all_given_faults}
 use Rattle.mp_scripttext.proofs.step_statics.check_all_given.Given as goal
 

@@ -1,6 +1,6 @@
 use Rattle.std.proofs.Common.{◌≡◌, ◌+◌, ap, sym, ◌∙◌, drop, is_some, false}
 use Rattle.std.specs.List.{flat_map}
-use Rattle.mp_termtext.specs.Faults.{least_from}
+use Rattle.mp_words.specs.Faults.{least_from}
 use Rattle.mp_termtext.proofs.Walks.{left_cons}
 use Rattle.mp_scripttext.specs.Statics.{given_of, missing_faults}
 use Rattle.mp_scripttext.proofs.Behind.{missing_behind, missing_found}

@@ -1,7 +1,7 @@
 use Rattle.std.proofs.Common.{ap, ◌∙◌, [], sym}
 use Rattle.std.specs.List.{flat_map}
 use Rattle.std.specs.Option.{option_copied}
-use Rattle.mp_termtext.specs.Faults.{least_from}
+use Rattle.mp_words.specs.Faults.{least_from}
 use Rattle.mp_termtext.proofs.FaultSteps.{three_parts}
 use Rattle.mp_scripttext.specs.Statics.{all_given_faults, missing_faults, place_faults, rule_faults}
 use Rattle.mp_scripttext.proofs.step_statics.check_rule.Goals as goal

@@ -1,6 +1,6 @@
 use Rattle.std.proofs.Common.{◌≡◌, drop}
 use Rattle.std.specs.List.{flat_map}
-use Rattle.mp_termtext.specs.Faults.{least_from}
+use Rattle.mp_words.specs.Faults.{least_from}
 use Rattle.mp_scripttext.specs.Statics.{term_faults}
 use Rattle.mp_scripttext.proofs.step_statics.check_terms.Given as goal
 

@@ -1,8 +1,8 @@
-use Rattle.mp_termtext.specs.Parts.{Whole, StuckWhole}
+use Rattle.mp_words.specs.Parts.{Whole, StuckWhole}
 use Rattle.mp_termtext.specs.Grammar.{IsTerm, StuckTerm, IsSequent, StuckSequent}
 use Rattle.mp_termtext.specs.Statics.{term_faults, sequent_faults}
 use Rattle.mp_termtext.specs.Values.{term_value, sequent_value}
-use Rattle.mp_termtext.proofs.Answering as answering
+use Rattle.mp_words.proofs.Answering as answering
 use Rattle.mp_termtext.proofs.OneTerm.{one_whole_sequent, one_whole_term}
 use Rattle.mp_termtext.proofs.laws.one_text.Goals as goal
 

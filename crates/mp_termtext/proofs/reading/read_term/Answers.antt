@@ -1,9 +1,9 @@
 use Rattle.std.proofs.Common.{rules, sym, ◌∙◌}
-use Rattle.mp_termtext.specs.Parts.{Whole, StuckWhole}
+use Rattle.mp_words.specs.Parts.{Whole, StuckWhole}
 use Rattle.mp_termtext.specs.Grammar.{IsTerm, StuckTerm}
 use Rattle.mp_termtext.specs.Statics.{term_faults}
 use Rattle.mp_termtext.specs.Values.{term_value}
-use Rattle.mp_termtext.proofs.Answering.{broken_text, lexical_text, none_least, stuck_text, text_is}
+use Rattle.mp_words.proofs.Answering.{broken_text, lexical_text, none_least, stuck_text, text_is}
 use Rattle.mp_termtext.proofs.reading.read_term.Goals as goal
 
 pub returns-in_err-text-clause-reads : goal.returns-in_err-text-clause-reads

@@ -1,5 +1,5 @@
 use Rattle.std.proofs.Common.{◌≡◌, ◌+◌, ℕ, min, map, drop}
-use Rattle.mp_termtext.specs.Faults.{least_from}
+use Rattle.mp_words.specs.Faults.{least_from}
 use Rattle.mp_termtext.specs.Statics.{each_faults, faults_of, bound_faults_of}
 use Rattle.mp_termtext.proofs.statics.+checking.Given as goal
 

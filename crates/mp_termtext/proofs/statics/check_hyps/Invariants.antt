@@ -1,5 +1,5 @@
 use Rattle.std.proofs.Common.{◌≡◌, ◌++◌, [], drop}
-use Rattle.mp_termtext.specs.Faults.{least_from}
+use Rattle.mp_words.specs.Faults.{least_from}
 use Rattle.mp_termtext.specs.Statics.{hyps_faults, hyp_names}
 use Rattle.mp_termtext.proofs.statics.check_hyps.Given as goal
 

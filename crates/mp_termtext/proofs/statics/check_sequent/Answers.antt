@@ -1,6 +1,6 @@
 use Rattle.std.proofs.Common.{[], refl, ap, ◌∙◌, sum_by}
 use Rattle.mp_logic.specs.Trees.{counted}
-use Rattle.mp_termtext.specs.Faults.{least_from, too_many}
+use Rattle.mp_words.specs.Faults.{least_from, too_many}
 use Rattle.mp_termtext.specs.Statics.{faults_of, hyp_names, hyps_faults, raw_sequent_size_of, raw_size_of}
 use Rattle.mp_termtext.proofs.FaultSteps.{counted_both, sequent_parts}
 use Rattle.mp_termtext.proofs.statics.check_sequent.Goals as goal

@@ -1,9 +1,9 @@
 use Rattle.std.proofs.Common.{[], None, refl, ap, sym, ◌∙◌}
-use Rattle.mp_termtext.specs.declared.fail.TextWhy.TheVariants as why
+use Rattle.mp_words.specs.declared.fail.TextWhy.TheVariants as why
 use Rattle.std.specs.Prelude.{nat_lt}
-use Rattle.mp_termtext.specs.Faults.{fault_if, least_from}
+use Rattle.mp_words.specs.Faults.{fault_if, least_from}
 use Rattle.mp_termtext.specs.Statics.{faults_of, left_of, raw_size_of}
-use Rattle.mp_termtext.proofs.Soonest.{least_from_append}
+use Rattle.mp_words.proofs.Soonest.{least_from_append}
 use Rattle.mp_termtext.proofs.statics.term_fault.Goals as goal
 
 pub returns : goal.returns

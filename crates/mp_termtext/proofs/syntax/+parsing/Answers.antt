@@ -1,7 +1,7 @@
 use Rattle.std.proofs.Common.{◌∷◌, [], List, refl, ap, sym, subst, length, arith}
 use Rattle.mp_termtext.specs.declared.raw.RawBound.{RawBound}
 use Rattle.mp_termtext.specs.Grammar.{AreBounds, AreSubs, StuckTerm, StuckSubs, StuckBounds, StuckBound, StuckParams, StuckBinders, variable, operator, no_subs, some_subs, last_bound, more_bounds, bound, no_name, in_params, in_subs, in_braces, in_bound, behind_bound, in_other_bounds, in_binders, in_body}
-use Rattle.mp_termtext.proofs.Steps.{fails_on, reads_on_front, stuck_at, goes_next}
+use Rattle.mp_words.proofs.Steps.{fails_on, reads_on_front, stuck_at, goes_next}
 use Rattle.mp_termtext.proofs.syntax.+parsing.Goals as goal
 
 pub parse_term-returns-in-Some-clause-reads : goal.parse_term-returns-in-Some-clause-reads

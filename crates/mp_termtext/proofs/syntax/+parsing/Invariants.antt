@@ -1,5 +1,5 @@
 use Rattle.std.proofs.Common.{◌++◌, ◌*◌, ◌+◌, ◌≤◌, List, length}
-use Rattle.mp_termtext.specs.declared.word.Word.{Word}
+use Rattle.mp_words.specs.declared.word.Word.{Word}
 use Rattle.mp_termtext.specs.declared.raw.RawBound.{RawBound}
 use Rattle.mp_termtext.specs.Grammar.{AreBounds, StuckBounds}
 use Rattle.mp_termtext.proofs.syntax.+parsing.Given as goal

@@ -1,6 +1,6 @@
 use Rattle.std.proofs.Common.{inr}
 use Rattle.mp_termtext.specs.Grammar.{StuckTerm, StuckSequent}
-use Rattle.mp_termtext.proofs.Steps.{fails_on}
+use Rattle.mp_words.proofs.Steps.{fails_on}
 use Rattle.mp_termtext.proofs.syntax.parse_sequent.Goals as goal
 
 pub returns-in-Err-parse_term-clause-reads : goal.returns-in-Err-parse_term-clause-reads

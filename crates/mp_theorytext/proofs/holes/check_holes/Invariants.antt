@@ -1,5 +1,5 @@
 use Rattle.std.proofs.Common.{◌≡◌, drop}
-use Rattle.mp_termtext.specs.Faults.{least_from}
+use Rattle.mp_words.specs.Faults.{least_from}
 use Rattle.mp_theorytext.specs.Scopes.{names_in}
 use Rattle.mp_theorytext.specs.Uses.{hole_faults}
 use Rattle.mp_theorytext.proofs.holes.check_holes.Given as goal

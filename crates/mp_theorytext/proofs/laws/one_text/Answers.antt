@@ -1,4 +1,4 @@
-use Rattle.mp_termtext.proofs.Answering.{one_text}
+use Rattle.mp_words.proofs.Answering.{one_text}
 use Rattle.mp_theorytext.specs.Grammar.{IsTheory, StuckTheory}
 use Rattle.mp_theorytext.specs.Statics.{theory_faults}
 use Rattle.mp_theorytext.specs.Values.{rules_of}

@@ -1,5 +1,5 @@
 use Rattle.std.proofs.Common.{◌≡◌, ℕ, drop, map, min}
-use Rattle.mp_termtext.specs.Faults.{least_from}
+use Rattle.mp_words.specs.Faults.{least_from}
 use Rattle.mp_termtext.specs.Statics.{each_faults}
 use Rattle.mp_theorytext.specs.Statics.{node_faults, bound_node_faults}
 use Rattle.mp_theorytext.proofs.nodes.+checking.Given as goal

@@ -1,5 +1,5 @@
 use Rattle.std.proofs.Common.{◌++◌, ◌*◌, ◌+◌, ◌≤◌, List, length}
-use Rattle.mp_termtext.specs.declared.word.Word.{Word}
+use Rattle.mp_words.specs.declared.word.Word.{Word}
 use Rattle.mp_theorytext.specs.declared.raw.RawPattern.{RawPattern}
 use Rattle.mp_theorytext.specs.declared.raw.RawPatternBound.{RawPatternBound}
 use Rattle.mp_theorytext.specs.Grammar.{AreArgs, StuckArgs, AreBounds, StuckBounds}

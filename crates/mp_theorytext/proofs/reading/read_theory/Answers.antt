@@ -2,7 +2,7 @@ use Rattle.std.proofs.Common.{rules, sym, ◌∙◌}
 use Rattle.mp_theorytext.specs.Grammar.{IsTheory, StuckTheory}
 use Rattle.mp_theorytext.specs.Statics.{theory_faults}
 use Rattle.mp_theorytext.specs.Values.{rules_of}
-use Rattle.mp_termtext.proofs.Answering.{broken_text, lexical_text, none_least, stuck_text, text_is}
+use Rattle.mp_words.proofs.Answering.{broken_text, lexical_text, none_least, stuck_text, text_is}
 use Rattle.mp_theorytext.proofs.reading.read_theory.Goals as goal
 
 pub returns-in_err-text-clause-reads : goal.returns-in_err-text-clause-reads

@@ -1,6 +1,6 @@
 use Rattle.std.proofs.Common.{inl, inr, refl, rules}
 use Rattle.mp_theorytext.specs.Grammar.{IsContext, StuckContexts, StuckArguments, StuckContext}
-use Rattle.mp_termtext.proofs.Steps.{failed_on, stuck_at}
+use Rattle.mp_words.proofs.Steps.{failed_on, stuck_at}
 use Rattle.mp_theorytext.proofs.rule.parse_context.Goals as goal
 
 pub returns-in_err-ctxs-clause-reads : goal.returns-in_err-ctxs-clause-reads

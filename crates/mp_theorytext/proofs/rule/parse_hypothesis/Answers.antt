@@ -1,6 +1,6 @@
 use Rattle.std.proofs.Common.{inl, inr, refl}
 use Rattle.mp_theorytext.specs.Grammar.{StuckPattern, StuckHypothesis}
-use Rattle.mp_termtext.proofs.Steps.{fails_on, stuck_at}
+use Rattle.mp_words.proofs.Steps.{fails_on, stuck_at}
 use Rattle.mp_theorytext.proofs.rule.parse_hypothesis.Goals as goal
 
 pub returns-in_default-mark-clause-reads : goal.returns-in_default-mark-clause-reads

@@ -1,6 +1,6 @@
 use Rattle.std.proofs.Common.{ap, ◌∙◌}
 use Rattle.std.specs.Prelude.{if◌then◌else◌}
-use Rattle.mp_termtext.specs.Faults.{least_from}
+use Rattle.mp_words.specs.Faults.{least_from}
 use Rattle.mp_theorytext.specs.Statics.{twice_faults, concl_item_faults, premise_item_faults}
 use Rattle.mp_theorytext.proofs.FaultWalks.{item_parts}
 use Rattle.mp_theorytext.proofs.statics.check_item.Goals as goal

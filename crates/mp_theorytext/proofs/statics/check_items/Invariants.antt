@@ -1,5 +1,5 @@
 use Rattle.std.proofs.Common.{◌≡◌, [], drop}
-use Rattle.mp_termtext.specs.Faults.{least_from}
+use Rattle.mp_words.specs.Faults.{least_from}
 use Rattle.mp_theorytext.specs.Scopes.{env_behind}
 use Rattle.mp_theorytext.specs.Statics.{items_faults}
 use Rattle.mp_theorytext.proofs.statics.check_items.Given as goal

@@ -1,6 +1,6 @@
 use Rattle.std.proofs.Common.{◌≡◌, [], drop, false}
 use Rattle.std.specs.List.{flat_map}
-use Rattle.mp_termtext.specs.Faults.{least_from}
+use Rattle.mp_words.specs.Faults.{least_from}
 use Rattle.mp_theorytext.specs.Uses.{uses_in_schema, uses_faults, firsts_after}
 use Rattle.mp_theorytext.proofs.statics.check_rule_uses.Given as goal
 

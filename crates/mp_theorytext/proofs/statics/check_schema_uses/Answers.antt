@@ -1,5 +1,5 @@
 use Rattle.std.proofs.Common.{ap, ◌∙◌, arith, [], ◌+◌, drop}
-use Rattle.mp_termtext.specs.Faults.{least_from}
+use Rattle.mp_words.specs.Faults.{least_from}
 use Rattle.mp_theorytext.specs.Uses.{uses_in_item, uses_in_items, uses_faults, firsts_after}
 use Rattle.mp_theorytext.proofs.FaultWalks.{contexts_next, uses_opened}
 use Rattle.mp_theorytext.proofs.UseSteps.{found_on, kept_on, schema_found, schema_kept}

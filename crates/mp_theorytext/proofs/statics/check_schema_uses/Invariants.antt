@@ -1,5 +1,5 @@
 use Rattle.std.proofs.Common.{◌≡◌, [], drop}
-use Rattle.mp_termtext.specs.Faults.{least_from}
+use Rattle.mp_words.specs.Faults.{least_from}
 use Rattle.mp_theorytext.specs.Scopes.{contexts_behind}
 use Rattle.mp_theorytext.specs.Uses.{uses_in_items, uses_faults, firsts_after}
 use Rattle.mp_theorytext.proofs.statics.check_schema_uses.Given as goal

@@ -1,5 +1,5 @@
 use Rattle.std.proofs.Common.{drop}
-use Rattle.mp_termtext.specs.Faults.{least}
+use Rattle.mp_words.specs.Faults.{least}
 use Rattle.mp_theorytext.specs.Statics.{theory_faults}
 use Rattle.mp_theorytext.proofs.FaultWalks.{IsBehind}
 use Rattle.mp_theorytext.proofs.statics.theory_fault.Given as goal

@@ -1,6 +1,6 @@
 use Rattle.std.proofs.Common.{◌≡◌, drop, map}
 use Rattle.std.specs.List.{flat_map}
-use Rattle.mp_termtext.specs.Faults.{least_from}
+use Rattle.mp_words.specs.Faults.{least_from}
 use Rattle.mp_theorytext.specs.Uses.{shown, uses_in_bound, uses_faults, firsts_after}
 use Rattle.mp_theorytext.proofs.uses.+using.Given as goal
 

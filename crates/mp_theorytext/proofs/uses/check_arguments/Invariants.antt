@@ -1,6 +1,6 @@
 use Rattle.std.proofs.Common.{◌≡◌, [], take, drop, map}
 use Rattle.std.specs.List.{flat_map}
-use Rattle.mp_termtext.specs.Faults.{least_from}
+use Rattle.mp_words.specs.Faults.{least_from}
 use Rattle.mp_theorytext.specs.Uses.{argument_of, argument_faults, variable_name}
 use Rattle.mp_theorytext.proofs.uses.check_arguments.Given as goal
 

@@ -1,6 +1,6 @@
 use Rattle.std.proofs.Common.{inr, rules}
-use Rattle.mp_termtext.specs.Parts.{StuckRepeated}
-use Rattle.mp_termtext.proofs.Steps.{failed_on}
+use Rattle.mp_words.specs.Parts.{StuckRepeated}
+use Rattle.mp_words.proofs.Steps.{failed_on}
 use Rattle.mp_drill.specs.ScheduleGrammar.{begins_event, IsEvent, StuckEvent, IsSection, StuckSection}
 use Rattle.mp_drill.proofs.syntax.RawSectionReader.read.Goals as goal
 

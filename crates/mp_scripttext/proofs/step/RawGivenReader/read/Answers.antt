@@ -1,6 +1,6 @@
 use Rattle.std.proofs.Common.{inl, inr, refl}
 use Rattle.mp_termtext.specs.Grammar.{StuckBound}
-use Rattle.mp_termtext.proofs.Steps.{fails_on, stuck_at}
+use Rattle.mp_words.proofs.Steps.{fails_on, stuck_at}
 use Rattle.mp_scripttext.specs.Grammar.{StuckGiven}
 use Rattle.mp_scripttext.proofs.step.RawGivenReader.read.Goals as goal
 

@@ -1,6 +1,6 @@
 use Rattle.std.proofs.Common.{refl, inl, inr, rules}
 use Rattle.mp_termtext.specs.Grammar.{StuckSequent}
-use Rattle.mp_termtext.proofs.Steps.{failed_on, stuck_at}
+use Rattle.mp_words.proofs.Steps.{failed_on, stuck_at}
 use Rattle.mp_scripttext.specs.Grammar.{IsEntry, StuckEntry, StuckFuel, StuckChain}
 use Rattle.mp_scripttext.proofs.syntax.RawEntryReader.read.Goals as goal
 

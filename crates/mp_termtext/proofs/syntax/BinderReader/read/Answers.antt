@@ -1,7 +1,7 @@
 use Rattle.std.proofs.Common.{refl}
-use Rattle.mp_termtext.specs.Parts.{Lacks}
+use Rattle.mp_words.specs.Parts.{Lacks}
 use Rattle.mp_termtext.specs.Grammar.{IsBinder}
-use Rattle.mp_termtext.proofs.Steps.{stuck_at}
+use Rattle.mp_words.proofs.Steps.{stuck_at}
 use Rattle.mp_termtext.proofs.syntax.BinderReader.read.Goals as goal
 
 pub returns-in-None-clause-reads : goal.returns-in-None-clause-reads

@@ -1,5 +1,0 @@
-use Rattle.mp_termtext.proofs.Soonest.{least_is_least}
-use Rattle.mp_termtext.proofs.fault.least_is_least.Goals as goal
-
-pub returns : goal.returns
-returns c = least_is_least

@@ -1,0 +1,101 @@
+-- The static faults of a text, and which of them is reported.
+use Rattle.std.specs.Prelude.{◌≡◌, ◌⊎◌, ℕ, List, [], ◌∷◌, Option, None, Some, Bool, false, nat_lt, nat_eq, ◌&&◌, ◌||◌, if◌then◌else◌, slice_get}
+use Rattle.mp_words.specs.declared.fault.Fault.{Fault}
+use Rattle.mp_words.specs.declared.fail.TextWhy.{TextWhy}
+use Rattle.mp_words.specs.declared.fail.TextWhy.TheVariants as why
+
+-- the place of a fault in the order of those at one place; the last ones are never static faults
+abbrev pub rank_of : TextWhy → ℕ
+rank_of why.Taken = 0
+rank_of why.UnknownName = 1
+rank_of why.TooMany = 2
+rank_of why.TooDeep = 3
+rank_of why.TooBig = 4
+rank_of why.BadNumber = 5
+rank_of why.UnboundVar = 6
+rank_of why.DanglingContext = 7
+rank_of why.TwiceContext = 8
+rank_of why.TooManyContexts = 9
+rank_of why.MisplacedHyp = 10
+rank_of why.NotAPattern = 11
+rank_of why.BadUse = 12
+rank_of why.UnboundParam = 13
+rank_of why.UnboundMeta = 14
+rank_of why.AtNeeded = 15
+rank_of why.AtRefused = 16
+rank_of why.MissingWith = 17
+rank_of why.ExtraWith = 18
+rank_of why.TwiceWith = 19
+rank_of why.BadArity = 20
+rank_of why.WrongGoal = 21
+rank_of why.BadIndent = 22
+rank_of why.CountDiffers = 23
+rank_of why.WrongLabel = 24
+rank_of why.NotCanonical = 25
+rank_of why.Cycle = 26
+rank_of why.Conditional = 27
+rank_of why.NestedSweep = 28
+rank_of why.BadDerivation = 29
+rank_of why.BadCheckpoint = 30
+rank_of why.BadByte = 31
+rank_of why.LongName = 32
+rank_of why.BadString = 33
+rank_of why.TooNested = 34
+rank_of why.Syntax = 35
+
+-- f is reported rather than g: it is at an earlier place, where more words are left, or before it in the order at one place
+abbrev pub is_sooner : Fault → Fault → Bool
+is_sooner f g = nat_lt g.left f.left || (nat_eq f.left g.left && nat_lt (rank_of f.why) (rank_of g.why))
+
+-- the sooner one of a fault that is held, if any, and another
+abbrev pub sooner : Option Fault → Fault → Option Fault
+sooner None f = Some f
+sooner (Some g) f = if is_sooner f g then Some f else Some g
+
+-- the soonest of a fault that is held, if any, and some more
+abbrev pub least_from : Option Fault → List Fault → Option Fault
+least_from held [] = held
+least_from held (f ∷ fs) = least_from (sooner held f) fs
+
+-- the fault of the list that is reported, if it has any
+abbrev pub least : List Fault → Option Fault
+least fs = least_from None fs
+
+-- the fault that is held is at an earlier place than where so many words are left
+abbrev pub is_behind : Option Fault → ℕ → Bool
+is_behind None l = false
+is_behind (Some f) l = nat_lt l f.left
+
+-- the fault where so many words are left
+abbrev pub fault : ℕ → TextWhy → List Fault
+fault l w = record { left = l; why = w } ∷ []
+
+abbrev pub fault_at_any : {X : Type 0} → (X → ℕ) → TextWhy → Option X → List Fault
+fault_at_any place w None = []
+fault_at_any place w (Some x) = fault (place x) w
+
+-- where at most so many items may stand, the first one too many is a fault
+abbrev pub too_many : {X : Type 0} → (X → ℕ) → ℕ → List X → List Fault
+too_many place most xs = fault_at_any place why.TooMany (slice_get xs most)
+
+-- the fault, where the test passes
+abbrev pub fault_if : Bool → ℕ → TextWhy → List Fault
+fault_if test l w = if test then fault l w else []
+
+-- it is one of them
+abbrev pub IsOneOf : Fault → List Fault → Type 0
+IsOneOf f [] = ⊥
+IsOneOf f (g ∷ gs) = (f ≡ g) ⊎ IsOneOf f gs
+
+-- none of them is sooner
+abbrev pub NoneSooner : Fault → List Fault → Type 0
+NoneSooner f [] = Unit {0}
+NoneSooner f (g ∷ gs) = (is_sooner g f ≡ false) × NoneSooner f gs
+
+abbrev pub IsLeastOf : List Fault → Option Fault → Type 0
+IsLeastOf fs None = fs ≡ []
+IsLeastOf fs (Some f) = IsOneOf f fs × NoneSooner f fs
+
+-- the reported fault is one of the faults, and none of them is sooner; there is none only where there are no faults
+abbrev pub LeastIsLeast : Type 0
+LeastIsLeast = (fs : List Fault) → IsLeastOf fs (least fs)

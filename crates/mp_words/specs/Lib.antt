@@ -1,0 +1,5 @@
+pub mod Faults
+pub mod Parts
+pub mod Ranges
+pub mod Texts
+pub mod Words

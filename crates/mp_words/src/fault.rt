@@ -1,0 +1,88 @@
+ghost use Rattle.std.specs.Prelude.{◌≡◌};
+ghost use Rattle.mp_words.specs.Faults.{rank_of, is_behind, sooner, LeastIsLeast};
+
+use crate::TextWhy;
+
+/// A broken static rule, and how many words are left where it is broken, the word itself among them. So more
+/// are left at an earlier place.
+#[derive(Clone, Copy, Debug, PartialEq, Eq)]
+pub struct Fault {
+    pub left: u64,
+    pub why: TextWhy,
+}
+
+/// The place of a static fault in the order of those at one place.
+fn rank(why: TextWhy) -> u64
+    ensures { result ≡ rank_of why }
+{
+    match why {
+        TextWhy::Taken => 0,
+        TextWhy::UnknownName => 1,
+        TextWhy::TooMany => 2,
+        TextWhy::TooDeep => 3,
+        TextWhy::TooBig => 4,
+        TextWhy::BadNumber => 5,
+        TextWhy::UnboundVar => 6,
+        TextWhy::DanglingContext => 7,
+        TextWhy::TwiceContext => 8,
+        TextWhy::TooManyContexts => 9,
+        TextWhy::MisplacedHyp => 10,
+        TextWhy::NotAPattern => 11,
+        TextWhy::BadUse => 12,
+        TextWhy::UnboundParam => 13,
+        TextWhy::UnboundMeta => 14,
+        TextWhy::AtNeeded => 15,
+        TextWhy::AtRefused => 16,
+        TextWhy::MissingWith => 17,
+        TextWhy::ExtraWith => 18,
+        TextWhy::TwiceWith => 19,
+        TextWhy::BadArity => 20,
+        TextWhy::WrongGoal => 21,
+        TextWhy::BadIndent => 22,
+        TextWhy::CountDiffers => 23,
+        TextWhy::WrongLabel => 24,
+        TextWhy::NotCanonical => 25,
+        TextWhy::Cycle => 26,
+        TextWhy::Conditional => 27,
+        TextWhy::NestedSweep => 28,
+        TextWhy::BadDerivation => 29,
+        TextWhy::BadCheckpoint => 30,
+        TextWhy::BadByte => 31,
+        TextWhy::LongName => 32,
+        TextWhy::BadString => 33,
+        TextWhy::TooNested => 34,
+        TextWhy::Syntax => 35,
+    }
+}
+
+/// The sooner one of the fault that is held and this one: the one at the earlier place, and at one place the
+/// one that is first in the order. Of two alike the one that is held stays.
+pub fn sooner_of(held: Option<Fault>, left: u64, why: TextWhy) -> Option<Fault>
+    ensures { result ≡ sooner held (record { left = left; why = why }) }
+{
+    let fault = Fault { left, why };
+    let Some(other) = held else {
+        return Some(fault);
+    };
+    if other.left < left || (left == other.left && rank(why) < rank(other.why)) {
+        Some(fault)
+    } else {
+        Some(other)
+    }
+}
+
+/// Whether the fault that is held is at an earlier place, so that no fault where so many words are left is
+/// sooner.
+pub fn behind(held: Option<Fault>, left: u64) -> bool
+    ensures { result ≡ is_behind held left }
+{
+    match held {
+        Some(fault) => left < fault.left,
+        None => false,
+    }
+}
+
+/// The fault that is found in a list of faults is one of them, and none of them is sooner.
+pub fn least_is_least()
+    ensures { LeastIsLeast }
+{}

@@ -1,0 +1,143 @@
+ghost use Rattle.std.specs.Prelude.{◌≡◌, ◌+◌, ◌<◌, ◌≤◌, [], List, Bool, length, IfOk};
+ghost use Rattle.mp_words.specs.Parts.{Reads, IsMark, Separated, StuckSeparated, Listed, StuckListed, Many, StuckMany, Repeated, StuckRepeated, Whole, StuckWhole};
+ghost use Rattle.mp_words.specs.declared.word.Word.{Word};
+
+use crate::parts::{ReadFail, mark, stuck};
+use crate::{Mark, Word};
+use mp_logic::List;
+use std::alloc::Global;
+
+/// A reader of one part of a grammar. The functions on lists below read such parts one after the other.
+pub trait Reader {
+    /// What the part is as it is written.
+    type Raw: Drop;
+
+    /// The part stands at the front of words, and these are left.
+    ghost is: { Self.Raw → List Word → List Word → Type 0 };
+
+    /// A reading of the part is stuck at the first of these words.
+    ghost stops: { List Word → List Word → Type 0 };
+
+    /// Reads the part at the front of the words. It takes one word at least.
+    fn read(alloc: Global, words: &[Word]) -> Result<(Self::Raw, &[Word]), ReadFail>
+        ensures reads { Reads (λ x. (x.0, x.1.now)) is stops words.now result }
+        ensures shorter { IfOk result (λ x. length x.1.now < length words.now) };
+}
+
+/// Reads the part once or more with the separator between, and then the end.
+pub fn separated<R: Reader>(
+    alloc: Global,
+    words: &[Word],
+    separator: Mark,
+    end: Mark,
+) -> Result<(List<R::Raw>, &[Word]), ReadFail>
+    ensures reads { Reads (λ x. (x.0, x.1.now)) (Separated R.is (IsMark separator) (IsMark end)) (StuckSeparated R.is R.stops (IsMark separator) (IsMark end)) words.now result }
+    ensures shorter { IfOk result (λ x. length x.1.now < length words.now) }
+    ensures few { IfOk result (λ x. length x.0 + length x.1.now ≤ length words.now) }
+{
+    let mut items = List::new(alloc);
+    let mut at = words;
+    loop {
+        let (item, rest) = match R::read(alloc, at) {
+            Ok(read) => read,
+            Err(fail) => return Err(fail),
+        };
+        match items.push(item) {
+            Ok(()) => {}
+            Err(_) => return Err(ReadFail::NoMemory),
+        }
+        if let Some(rest) = mark(rest, end) {
+            return Ok((items, rest));
+        }
+        match mark(rest, separator) {
+            Some(next) => at = next,
+            None => return Err(stuck(rest)),
+        }
+    }
+}
+
+/// Reads the end at once, or the part once or more with the separator between, and then the end.
+pub fn listed<R: Reader>(
+    alloc: Global,
+    words: &[Word],
+    separator: Mark,
+    end: Mark,
+) -> Result<(List<R::Raw>, &[Word]), ReadFail>
+    ensures reads { Reads (λ x. (x.0, x.1.now)) (Listed R.is (IsMark separator) (IsMark end)) (StuckListed R.is R.stops (IsMark separator) (IsMark end)) words.now result }
+    ensures shorter { IfOk result (λ x. length x.1.now < length words.now) }
+    ensures few { IfOk result (λ x. length x.0 + length x.1.now ≤ length words.now) }
+{
+    match mark(words, end) {
+        Some(rest) => Ok((List::new(alloc), rest)),
+        None => separated::<R>(alloc, words, separator, end),
+    }
+}
+
+/// Reads the part again and again, up to the end of the words.
+pub fn many<R: Reader>(alloc: Global, words: &[Word]) -> Result<List<R::Raw>, ReadFail>
+    ensures reads { Reads (λ x. (x, [])) (Many R.is) (StuckMany R.is R.stops) words.now result }
+    ensures few { IfOk result (λ x. length x ≤ length words.now) }
+{
+    let mut items = List::new(alloc);
+    let mut at = words;
+    while !at.is_empty() {
+        let (item, rest) = match R::read(alloc, at) {
+            Ok(read) => read,
+            Err(fail) => return Err(fail),
+        };
+        match items.push(item) {
+            Ok(()) => {}
+            Err(_) => return Err(ReadFail::NoMemory),
+        }
+        at = rest;
+    }
+    Ok(items)
+}
+
+/// A reader of a part that is known by the words that it begins with.
+pub trait Beginning: Reader {
+    /// The words begin the part.
+    ghost begun: { List Word → Bool };
+
+    /// Whether the words begin the part.
+    fn begins(words: &[Word]) -> bool
+        ensures { result ≡ begun words.now };
+}
+
+/// Reads the part again and again, as long as the words in front begin it.
+pub fn repeated<R: Beginning>(
+    alloc: Global,
+    words: &[Word],
+) -> Result<(List<R::Raw>, &[Word]), ReadFail>
+    ensures reads { Reads (λ x. (x.0, x.1.now)) (Repeated R.is R.begun) (StuckRepeated R.is R.begun R.stops) words.now result }
+    ensures few { IfOk result (λ x. length x.0 + length x.1.now ≤ length words.now) }
+{
+    let mut items = List::new(alloc);
+    let mut at = words;
+    while R::begins(at) {
+        let (item, rest) = match R::read(alloc, at) {
+            Ok(read) => read,
+            Err(fail) => return Err(fail),
+        };
+        match items.push(item) {
+            Ok(()) => {}
+            Err(_) => return Err(ReadFail::NoMemory),
+        }
+        at = rest;
+    }
+    Ok((items, at))
+}
+
+/// Reads the part that is all of the words.
+pub fn whole<R: Reader>(alloc: Global, words: &[Word]) -> Result<R::Raw, ReadFail>
+    ensures { Reads (λ x. (x, [])) (Whole R.is) (StuckWhole R.is R.stops) words.now result }
+{
+    let (raw, rest) = match R::read(alloc, words) {
+        Ok(read) => read,
+        Err(fail) => return Err(fail),
+    };
+    if !rest.is_empty() {
+        return Err(stuck(rest));
+    }
+    Ok(raw)
+}
