@@ -37,7 +37,6 @@ module _ (rule : Rule) (first : Option ℕ) (given : List Given) (goal : Sequent
     pub no_match : (o ≡ Err NoMatch) ↔ ((v : Instance) → GivesGoal rule.concl first goal v → ⊥)
     pub bad_argument : (o ≡ Err BadArgument) ↔ Misgiven rule first given goal
     pub too_large : (o ≡ Err TooLarge) ↔ LargeStep rule first given goal
-    pub one : (kids others : List Sequent) → RuleStep rule first given goal kids → RuleStep rule first given goal others → kids ≡ others
 
   module _ (needs : rule.needs ≡ needs_of rule.premises rule.concl) (a : IsAsked rule.premises rule.concl first given goal) where
     none_case : match_of rule.concl first goal ≡ None → IsStep (Err NoMatch)
@@ -48,7 +47,6 @@ module _ (rule : Rule) (first : Option ℕ) (given : List Given) (goal : Sequent
           no_match = (λ k. none, λ h. refl);
           bad_argument = (λ k. absurd cc, λ m. absurd (none m.instance m.match));
           too_large = (λ k. absurd cc, λ l. absurd (none l.step.instance l.step.match));
-          one = λ kids others s t. absurd (none s.instance s.match);
         }
 
     module _ (i : Inst) (is : match_of rule.concl first goal ≡ Some i) where
@@ -65,7 +63,6 @@ module _ (rule : Rule) (first : Option ℕ) (given : List Given) (goal : Sequent
             no_match = (λ k. absurd cc, λ h. absurd (h (instance_of i) (gives_first rule.premises rule.concl first given goal a i is)));
             bad_argument = (λ k. record { instance = instance_of i; match = gives_first rule.premises rule.concl first given goal a i is; none = none }, λ m. refl);
             too_large = (λ k. absurd cc, λ l. absurd (none l.step.instance l.step.match l.step.meets));
-            one = λ kids others s t. absurd (none s.instance s.match s.meets);
           }
         where
           unmet : {P : Inst → Type 0} → (new : Inst) × ((given_all (needs_of rule.premises rule.concl) given i ≡ Some new) × P new) → ⊥
@@ -92,6 +89,7 @@ module _ (rule : Rule) (first : Option ℕ) (given : List Given) (goal : Sequent
         step_found : RuleStep rule first given goal found
         step_found = record {
           instance = made;
+          said = a.two.1;
           match = gives;
           meets = subst (λ ns. MeetsAll made rule.concl ns given) (sym needs) meets;
           fits = fits;
@@ -124,14 +122,12 @@ module _ (rule : Rule) (first : Option ℕ) (given : List Given) (goal : Sequent
           no_match = (λ k. absurd cc, λ h. absurd (h made gives));
           bad_argument = (λ k. absurd cc, λ m. absurd (met m));
           too_large = (λ k. absurd cc, λ l. let same = only l.kids l.step in let large = l.large in let f : list_all within_limits_of found ≡ false = rw same at large in absurd cc);
-          one = λ kids others s t. only kids s ∙ sym (only others t);
         }
         given_case false e = record {
           kids = λ kids. (λ k. absurd cc, λ s. let same = only kids s.0 in let small = s.1 in let f : list_all within_limits_of found ≡ true = rw same at small in absurd cc);
           no_match = (λ k. absurd cc, λ h. absurd (h made gives));
           bad_argument = (λ k. absurd cc, λ m. absurd (met m));
           too_large = (λ k. record { kids = found; step = step_found; large = e }, λ l. refl);
-          one = λ kids others s t. only kids s ∙ sym (only others t);
         }
 
       given_cases : (o : Option Inst) → given_all (needs_of rule.premises rule.concl) given i ≡ o → IsStep (outcome_given rule o)
@@ -152,4 +148,4 @@ whole_law rules place rule first given goal is whole allowed good =
     let s = step_is rule first given goal whole.needs (asked rule first given goal here good) in
     let e : outcome_of rule first given goal ≡ step_by rules (just.Rule place first given) goal = ap (λ r. outcome_at r first given goal) (sym is) in
     let t = subst (IsStep rule first given goal) e s in
-    record { kids = t.kids; no_match = t.no_match; bad_argument = t.bad_argument; too_large = t.too_large; one = t.one }
+    record { kids = t.kids; no_match = t.no_match; bad_argument = t.bad_argument; too_large = t.too_large }

@@ -1,5 +1,5 @@
 -- What the steps of a list of rules are, in terms of instances.
-use Rattle.std.specs.Prelude.{◌≡◌, ◌↔◌, ℕ, List, true, false, Option, Some, Ok, Err, slice_get, IsTrue}
+use Rattle.std.specs.Prelude.{◌≡◌, ◌≤◌, ◌↔◌, ℕ, length, List, true, false, Option, Some, Ok, Err, slice_get, IsTrue}
 use Rattle.std.specs.List.{list_all}
 use Rattle.mp_logic.specs.declared.logic.Why.TheVariants.{NoMatch, BadArgument, TooLarge}
 use Rattle.mp_term.specs.declared.sequent.Sequent.{Sequent}
@@ -26,16 +26,22 @@ pub record LargeStep (rule : Rule) (first : Option ℕ) (given : List Given) (go
   pub step : RuleStep rule first given goal kids
   pub large : list_all within_limits_of kids ≡ false
 
--- a step is what instances say, in both directions, and a rule gives a goal at most one list of subgoals
+-- a step is what instances say, in both directions
 pub record IsStepBy (rules : List Rule) (place : ℕ) (rule : Rule) (first : Option ℕ) (given : List Given) (goal : Sequent) : Type 0 where
   pub kids : (kids : List Sequent) → (step_by rules (just.Rule place first given) goal ≡ Ok kids) ↔ (RuleStep rule first given goal kids × (list_all within_limits_of kids ≡ true))
   pub no_match : (step_by rules (just.Rule place first given) goal ≡ Err NoMatch) ↔ ((v : Instance) → GivesGoal rule.concl first goal v → ⊥)
   pub bad_argument : (step_by rules (just.Rule place first given) goal ≡ Err BadArgument) ↔ Misgiven rule first given goal
   pub too_large : (step_by rules (just.Rule place first given) goal ≡ Err TooLarge) ↔ LargeStep rule first given goal
-  pub one : (kids others : List Sequent) → RuleStep rule first given goal kids → RuleStep rule first given goal others → kids ≡ others
 
 -- so is each step by a rule of a theory that is allowed, on a good goal
 abbrev pub StepLaw : Type 0
 StepLaw =
     (rules : List Rule) (place : ℕ) (rule : Rule) (first : Option ℕ) (given : List Given) (goal : Sequent) → slice_get rules place ≡ Some rule → IsRule rule →
     IsTrue (is_allowed rules (just.Rule place first given)) → IsTrue (is_good goal) → IsStepBy rules place rule first given goal
+
+-- a rule of a theory gives a goal of at most 200 hypotheses at most one list of subgoals for the same arguments, whatever
+-- else the goal and the given terms are
+abbrev pub OneListOfSubgoals : Type 0
+OneListOfSubgoals =
+    (rule : Rule) (first : Option ℕ) (given : List Given) (goal : Sequent) (kids others : List Sequent) → IsRule rule → length goal.hyps ≤ 200 → RuleStep rule first given goal kids →
+    RuleStep rule first given goal others → kids ≡ others

@@ -117,16 +117,16 @@ new_given : (metas : List MetaVal) (ns : List Need) → HaveApartNames ns → ((
 new_given metas [] h k = tt
 new_given metas (n ∷ ns) h k = (k n (inl refl), h.0, new_given metas ns h.1 (λ m i. k m (inr i)))
 
-module _ (ps : List Schema) (c : Schema) (first : Option ℕ) (given : List Given) (goal : Sequent) (a : IsAsked ps c first given goal) where
+module _ (ps : List Schema) (c : Schema) (rule : IsSound ps c) where
   -- a need's contexts are those of the conclusion, each once
-  need_known : (n : Need) → In n (needs_of ps c) → is_known (past_all c.items nothing_before).contexts n.ctxs ≡ true
+  pub need_known : (n : Need) → In n (needs_of ps c) → is_known (past_all c.items nothing_before).contexts n.ctxs ≡ true
   need_known n i =
       let f = need-from ps c n i in
       let lists : f.at.ctxs ≡ n.ctxs = ap (λ (m : Need). m.ctxs) f.same in
-      let here = placed_known f.premise f.at (a.rule.placed f.premise f.in_premises) f.there in
+      let here = placed_known f.premise f.at (rule.placed f.premise f.in_premises) f.there in
       let within : IsWithin (context_names f.premise) (past_all c.items nothing_before).contexts =
       λ name e.
-      let k = has_all-has (context_names c) (context_names f.premise) name (a.rule.even.listed f.premise f.in_premises) e in
+      let k = has_all-has (context_names c) (context_names f.premise) name (rule.even.listed f.premise f.in_premises) e in
       past_within c.items nothing_before name ∙ k in
       ap (λ cs. is_known (past_all c.items nothing_before).contexts cs) (sym lists) ∙ is_known_more (context_names f.premise) (past_all c.items nothing_before).contexts f.at.ctxs within here
 
@@ -134,26 +134,27 @@ module _ (ps : List Schema) (c : Schema) (first : Option ℕ) (given : List Give
   need_listed n i =
       let f = need-from ps c n i in
       let lists : f.at.ctxs ≡ n.ctxs = ap (λ (m : Need). m.ctxs) f.same in
-      let here = placed_known f.premise f.at (a.rule.placed f.premise f.in_premises) f.there in
-      let within : IsWithin (context_names f.premise) (context_names c) = λ name e. has_all-has (context_names c) (context_names f.premise) name (a.rule.even.listed f.premise f.in_premises) e in
+      let here = placed_known f.premise f.at (rule.placed f.premise f.in_premises) f.there in
+      let within : IsWithin (context_names f.premise) (context_names c) = λ name e. has_all-has (context_names c) (context_names f.premise) name (rule.even.listed f.premise f.in_premises) e in
       let k = is_known_more (context_names f.premise) (context_names c) f.at.ctxs within here in
       ap (λ cs. has_all (context_names c) cs) (sym lists) ∙ (and_both (has_all (context_names c) f.at.ctxs) (is_apart f.at.ctxs) k).0
 
   need_few : (n : Need) → In n (needs_of ps c) → n.arity ≤ 8
   need_few n i =
       let f = need-from ps c n i in
-      let few = a.rule.even.few f.premise f.at f.in_premises f.there in
+      let few = rule.even.few f.premise f.at f.in_premises f.there in
       let e : min (length f.at.levels) 4294967295 ≡ n.arity = ap (λ (m : Need). m.arity) f.same in
       omega arith
 
+module _ (ps : List Schema) (c : Schema) (first : Option ℕ) (given : List Given) (goal : Sequent) (a : IsAsked ps c first given goal) where
   module _ (i : Inst) (is : match_of c first goal ≡ Some i) where
     spread : IsSpread i c goal
     spread = match_spreads c first goal a.rule.conclusion a.two a.scoped a.narrow i is
 
     pub need_usable : (n : Need) → In n (needs_of ps c) → IsUsable i.ctxs n
     need_usable n j = record {
-      few = need_few n j;
-      distinct = spread.distinct n.ctxs (need_known n j);
+      few = need_few ps c a.rule n j;
+      distinct = spread.distinct n.ctxs (need_known ps c a.rule n j);
       below =
           let many = a.many in
           All-weaker (λ l. l < length goal.hyps) (λ l. l < 200) (λ l lt. omega arith) _ (spread.below n.ctxs);

@@ -121,7 +121,7 @@ module _ (i : Inst) where
       let h = has_names has_m has_p p e in
       record { values = λ o j. subst (λ b. HasValue b o.name) (sym (plain p o j)) (h.metas o j); holes = h.holes }
 
-  all_args : (args : List Pattern) → all_pass (map (is_covered i) args) ≡ true → HasAll (flat_map occurrences_in args) (flat_map holes_in args)
+  pub all_args : (args : List Pattern) → all_pass (map (is_covered i) args) ≡ true → HasAll (flat_map occurrences_in args) (flat_map holes_in args)
   all_args [] e = record { values = λ o j. absurd j; holes = λ n j. absurd j }
   all_args (a ∷ rest) e =
       let both = and_both (is_covered i a) (all_pass (map (is_covered i) rest)) e in

@@ -44,7 +44,7 @@ agrees_itself i = record {
   params = λ name p e. ap (λ (o : Option Param). unwrap_or o (Num (pos 0))) e;
 }
 
-some_of : {X : Type 0} → (o : Option X) → is_there o ≡ true → (x : X) × (o ≡ Some x)
+pub some_of : {X : Type 0} → (o : Option X) → is_there o ≡ true → (x : X) × (o ≡ Some x)
 some_of None e = absurd cc
 some_of (Some x) e = (x, refl)
 
@@ -96,7 +96,7 @@ module _ (u w : Instance) (ambient : u.ambient ≡ w.ambient) (kept : (name : Sy
 
 -- ## Holes
 
-has-in : (xs : List Sym) (name : Sym) → has xs name ≡ true → In name xs
+pub has-in : (xs : List Sym) (name : Sym) → has xs name ≡ true → In name xs
 has-in [] name e = absurd cc
 has-in (x ∷ xs) name e = by (nat_eq x.0 name.0) refl e (has-in xs name)
   where
@@ -104,7 +104,7 @@ has-in (x ∷ xs) name e = by (nat_eq x.0 name.0) refl e (has-in xs name)
     by true t k rest = inl (same_name x name t)
     by false t k rest = inr (rest k)
 
-has_all-in : (known names : List Sym) (name : Sym) → has_all known names ≡ true → In name names → has known name ≡ true
+pub has_all-in : (known names : List Sym) (name : Sym) → has_all known names ≡ true → In name names → has known name ≡ true
 has_all-in known [] name e i = absurd i
 has_all-in known (x ∷ xs) name e (inl same) = ap (has known) (sym same) ∙ (and_both (has known x) (has_all known xs) e).0
 has_all-in known (x ∷ xs) name e (inr i) = has_all-in known xs name (and_both (has known x) (has_all known xs) e).1 i
@@ -149,7 +149,7 @@ module _ (ps : List Schema) (c : Schema) (first : Option ℕ) (given : List Give
       }
 
   meets_found : (v : Instance) → GivesGoal c first goal v → MeetsAll v c needs given → AllMeetBy i.ctxs v needs given
-  meets_found v g m = meets_by v c i (laid_as v g) needs given (need_listed ps c first given goal a) m
+  meets_found v g m = meets_by v c i (laid_as v g) needs given (need_listed ps c a.rule) m
 
   -- an instance that gives the goal and meets the needs agrees with what is given
   pub agrees_given : (v : Instance) → GivesGoal c first goal v → MeetsAll v c needs given → (new : Inst) × ((given_all needs given i ≡ Some new) × Agrees v new)
@@ -181,7 +181,7 @@ module _ (ps : List Schema) (c : Schema) (first : Option ℕ) (given : List Give
         }
 
     pub meets_made : MeetsAll made c needs given
-    meets_made = by_meets made c i (laid_as made gives_made) needs given (need_listed ps c first given goal a) (fill.meets made (agrees_itself new))
+    meets_made = by_meets made c i (laid_as made gives_made) needs given (need_listed ps c a.rule) (fill.meets made (agrees_itself new))
 
     -- ## The premises
 
