@@ -1,16 +1,15 @@
 -- The least fault of a schedule so far goes on from one part to the next.
-use Rattle.std.proofs.Common.{◌≡◌, ◌++◌, ◌+◌, ◌<◌, ℕ, List, [], ◌∷◌, Option, None, Some, Bool, true, false, not, ◌||◌, ◌&&◌, nat_lt, nat_eq, if◌then◌else◌, refl, ap, sym, ◌∙◌, map, take, drop, length, get_or, append_assoc, arith}
-use Rattle.std.proofs.lemmas.List.{take_more, map-append}
+use Rattle.std.proofs.Common.{◌≡◌, ◌++◌, ◌+◌, ◌<◌, ℕ, List, [], ◌∷◌, Option, None, Some, Bool, true, false, not, ◌||◌, ◌&&◌, nat_lt, nat_eq, if◌then◌else◌, refl, ap, sym, ◌∙◌, map, take, drop, length, get_or, arith}
 use Rattle.std.proofs.lemmas.List.Folds.{list_any-append}
 use Rattle.std.proofs.lemmas.Bool.Decides.{nat_tests}
 use Rattle.mp_logic.specs.declared.sym.Sym.{Sym}
-use Rattle.mp_names.specs.Sets.{Met, with_met, is_met, is_among}
-use Rattle.mp_names.proofs.Meeting.{meeting}
+use Rattle.mp_names.specs.Sets.{Met, is_met, is_among}
 use Rattle.mp_words.specs.declared.fault.Fault.{Fault}
 use Rattle.mp_words.specs.declared.fail.TextWhy.TheVariants as why
 use Rattle.mp_words.specs.declared.raw.RawName.{RawName}
 use Rattle.mp_words.specs.Faults.{fault_if, is_sooner, least_from, rank_of, sooner}
 use Rattle.mp_termtext.proofs.FaultSteps.{three_parts}
+use Rattle.mp_termtext.proofs.MetWalks.{names_next}
 use Rattle.mp_termtext.proofs.Walks.{left_cons}
 use Rattle.mp_drill.specs.declared.raw.RawSection.{RawSection}
 use Rattle.mp_drill.specs.ScheduleStatics.{events_faults, name_faults, sections_faults}
@@ -72,23 +71,14 @@ module _ (goals names known taken : List _) (n : RawName) (k : Met known (goals 
 abbrev pub names_of : List RawSection → List Sym
 names_of ss = map (λ s. s.goal.name) ss
 
+-- the faults go on to the next section
 module _ (ss : List RawSection) (i : ℕ) (s : RawSection) (lt : i < length ss) (is : s ≡ get_or ss i s) where
-  pub names_next : names_of (take (i + 1) ss) ≡ names_of (take i ss) ++ s.goal.name ∷ []
-  names_next =
-      ap names_of (take_more ss i s lt ∙ ap (λ x. take i ss ++ x ∷ []) (sym is)) ∙ map-append (λ x. x.goal.name) (take i ss) (s ∷ [])
-
-  -- the names that were met go on to the next section
-  pub met_next : (front : List Sym) (met after : List ℕ) → Met met (front ++ names_of (take i ss)) → after ≡ with_met met s.goal.name.0 → Met after (front ++ names_of (take (i + 1) ss))
-  met_next front met after h e name =
-      ap (λ m. is_met m name.0) e ∙ meeting met (front ++ names_of (take i ss)) s.goal.name h name
-      ∙ ap (λ ns. is_among ns name) (append_assoc front (names_of (take i ss)) (s.goal.name ∷ []) ∙ ap (λ ns. front ++ ns) (sym names_next))
-
-  -- so do the faults
   pub sections_next : (goals : List Sym) (held mid next whole : Option Fault) → mid ≡ least_from held (name_faults goals (names_of (take i ss)) s.goal) → next ≡ least_from mid (events_faults s.events)
       → least_from held (sections_faults goals (names_of (take i ss)) (drop i ss)) ≡ whole → least_from next (sections_faults goals (names_of (take (i + 1) ss)) (drop (i + 1) ss)) ≡ whole
   sections_next goals held mid next whole e f prev =
       let taken = names_of (take i ss) in
       let rest = sections_faults goals (taken ++ s.goal.name ∷ []) (drop (i + 1) ss) in
       let here = name_faults goals taken s.goal in
-      ap (λ ns. least_from next (sections_faults goals ns (drop (i + 1) ss))) names_next ∙ three_parts held mid next (least_from next rest) here (events_faults s.events) rest e f refl
+      ap (λ ns. least_from next (sections_faults goals ns (drop (i + 1) ss))) (names_next (λ (x : RawSection). x.goal.name) ss i s lt is)
+      ∙ three_parts held mid next (least_from next rest) here (events_faults s.events) rest e f refl
       ∙ ap (λ ys. least_from held (sections_faults goals taken ys)) (sym (left_cons ss i s lt is)) ∙ prev

@@ -1,10 +1,8 @@
 -- The faults of goals, one after the other.
 use Rattle.std.proofs.Common.{◌≡◌, ◌++◌, ◌+◌, ◌<◌, ℕ, List, [], ◌∷◌, Option, Bool, refl, ap, sym, ◌∙◌, map, take, drop, length, get_or, nat_lt}
 use Rattle.std.specs.List.{flat_map}
-use Rattle.std.proofs.lemmas.List.{map-append, take_more}
 use Rattle.mp_logic.specs.declared.sym.Sym.{Sym}
-use Rattle.mp_names.specs.Sets.{Met, is_among, is_met, with_met}
-use Rattle.mp_names.proofs.Meeting.{meeting}
+use Rattle.mp_names.specs.Sets.{Met, is_among, is_met}
 use Rattle.mp_theory.specs.declared.rule.Rule.{Rule}
 use Rattle.mp_words.specs.declared.fault.Fault.{Fault}
 use Rattle.mp_words.specs.declared.fail.TextWhy.TheVariants as why
@@ -12,6 +10,7 @@ use Rattle.mp_words.specs.Faults.{fault_if, least_from}
 use Rattle.mp_words.specs.Ranges.{written_number_faults}
 use Rattle.mp_termtext.specs.Statics.{sequent_faults}
 use Rattle.mp_termtext.proofs.FaultSteps.{two_parts, three_parts}
+use Rattle.mp_termtext.proofs.MetWalks.{names_next}
 use Rattle.mp_termtext.proofs.Walks.{left_cons}
 use Rattle.mp_scripttext.specs.declared.raw.RawEntry.{RawEntry}
 use Rattle.mp_scripttext.specs.Statics.{entries_faults, entry_faults, step_faults, strategy_faults}
@@ -30,12 +29,6 @@ goal_names es = map (λ e. e.name.name) es
 
 -- one goal more
 module _ (es : List RawEntry) (i : ℕ) (e : RawEntry) (lt : i < length es) (is : e ≡ get_or es i e) (met : List ℕ) (before : Met met (goal_names (take i es))) where
-  names_more : goal_names (take (i + 1) es) ≡ goal_names (take i es) ++ e.name.name ∷ []
-  names_more = ap goal_names (take_more es i e lt ∙ ap (λ x. take i es ++ x ∷ []) (sym is)) ∙ map-append (λ x. x.name.name) (take i es) (e ∷ [])
-
-  pub met_next : (after : List ℕ) → after ≡ with_met met e.name.name.0 → Met after (goal_names (take (i + 1) es))
-  met_next after grown = rw (grown) (rw names_more (meeting met (goal_names (take i es)) e.name.name before))
-
   pub entries_next : (rules : List Rule) (known : Bool) (held mid next whole : Option Fault) → known ≡ is_met met e.name.name.0 → mid ≡ least_from held (fault_if known e.name.left why.Taken) → next ≡ least_from mid (entry_faults rules e)
       → least_from held (entries_faults rules (goal_names (take i es)) (drop i es)) ≡ whole → least_from next (entries_faults rules (goal_names (take (i + 1) es)) (drop (i + 1) es)) ≡ whole
   entries_next rules known held mid next whole met_is f g prev =
@@ -43,5 +36,6 @@ module _ (es : List RawEntry) (i : ℕ) (e : RawEntry) (lt : i < length es) (is 
       let rest = entries_faults rules (taken ++ e.name.name ∷ []) (drop (i + 1) es) in
       let here = fault_if (is_among taken e.name.name) e.name.left why.Taken in
       let f' : mid ≡ least_from held here = f ∙ ap (λ test. least_from held (fault_if test e.name.left why.Taken)) (met_is ∙ before e.name.name) in
-      ap (λ ns. least_from next (entries_faults rules ns (drop (i + 1) es))) names_more ∙ three_parts held mid next (least_from next rest) here (entry_faults rules e) rest f' g refl
+      ap (λ ns. least_from next (entries_faults rules ns (drop (i + 1) es))) (names_next (λ (x : RawEntry). x.name.name) es i e lt is)
+      ∙ three_parts held mid next (least_from next rest) here (entry_faults rules e) rest f' g refl
       ∙ ap (λ xs. least_from held (entries_faults rules taken xs)) (sym (left_cons es i e lt is)) ∙ prev

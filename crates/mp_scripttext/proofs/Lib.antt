@@ -4,9 +4,11 @@ mod ChainRows
 mod DistinctNeeds
 mod EntryWalks
 pub mod Found
+mod GivenWalks
 mod GoodEntries
 mod GoodSequents
 mod GoodTerms
+mod MetNames
 pub mod OneScript
 mod RawTermInduction
 mod Shapes

@@ -1,14 +1,16 @@
 ghost use Rattle.std.specs.Prelude.{◌≡◌, ◌++◌, ◌∷◌, [], length, map, IfOk, OnOk, IsTrue};
 ghost use Rattle.std.specs.List.{flat_map, list_all};
-ghost use Rattle.std.specs.Option.{option_copied};
 ghost use Rattle.mp_theory.specs.Allowed.{is_allowed};
 ghost use Rattle.mp_words.specs.Ranges.{written_number_faults};
-ghost use Rattle.mp_scripttext.specs.Statics.{given_of, missing_faults, step_faults, term_faults};
+ghost use Rattle.mp_scripttext.specs.Names.{given_numbers};
+ghost use Rattle.mp_scripttext.specs.Statics.{all_given_faults, missing_faults, step_faults, term_faults};
 ghost use Rattle.mp_scripttext.specs.Strategies.{strategy_of, whole_of};
 ghost use Rattle.mp_scripttext.specs.Values.{first_of, given_for, just_of};
 
-use crate::raw::{RawGiven, RawStep, RawStrategy};
-use mp_logic::{List, NoMemory, Sym};
+use crate::names::{find_given, given_names};
+use crate::raw::{RawStep, RawStrategy};
+use mp_logic::{List, NoMemory};
+use mp_names::NameSet;
 use mp_termtext::build_bound;
 use mp_theory::{Given, Just, Need, Theory};
 use mp_words::RawNumber;
@@ -17,25 +19,19 @@ use std::alloc::Global;
 /// How many names are free in a given term.
 const FREE: u32 = 200;
 
-/// The first given term of this name.
-fn find_given(raws: &[RawGiven], name: Sym) -> Option<&RawGiven>
-    ensures { option_copied result ≡ given_of raws.now name }
-{
-    for raw in raws {
-        if raw.name.name.0 == name.0 {
-            return Some(raw);
-        }
-    }
-    None
-}
-
-/// What a step gives for a need.
-fn build_given(alloc: Global, step: &RawStep, need: &Need) -> Result<Given, NoMemory>
+/// What a step gives for a need, where its given terms have these names.
+fn build_given(
+    alloc: Global,
+    step: &RawStep,
+    names: &NameSet,
+    need: &Need,
+) -> Result<Given, NoMemory>
+    requires names { names.now ≡ given_numbers step.now.given }
     requires terms { flat_map term_faults step.now.given ≡ [] }
     requires there { missing_faults step.now need.now ≡ [] }
     ensures { IfOk result (λ given. given ≡ given_for step.now.given need.now) }
 {
-    let Some(raw) = find_given(step.given.as_slice(), need.name) else {
+    let Some(raw) = find_given(step.given.as_slice(), names, need.name) else {
         unreachable!()
     };
     let mut env = Vec::new(alloc);
@@ -55,11 +51,13 @@ fn build_all_given(
 ) -> Result<List<Given>, NoMemory>
     requires terms { flat_map term_faults step.now.given ≡ [] }
     requires there { flat_map (missing_faults step.now) needs.now ≡ [] }
+    requires given { all_given_faults needs.now [] step.now.given ≡ [] }
     ensures { IfOk result (λ given. given ≡ map (given_for step.now.given) needs.now) }
 {
+    let names = given_names(alloc, step.given.as_slice())?;
     let mut built = List::with_capacity(alloc, needs.len())?;
     for need in needs.as_slice() {
-        let given = build_given(alloc, step, need)?;
+        let given = build_given(alloc, step, &names, need)?;
         if let Err((_, refused)) = built.push(given) {
             return Err(refused);
         }

@@ -5,6 +5,7 @@ mod chain;
 mod just;
 mod laws;
 mod making;
+mod names;
 mod raw;
 mod reading;
 mod script;

@@ -1,14 +1,17 @@
-ghost use Rattle.std.specs.Prelude.{◌≡◌, [], IfOk, if◌then◌else◌, is_some, length, map};
-ghost use Rattle.std.specs.List.{flat_map};
+ghost use Rattle.std.specs.Prelude.{◌≡◌, [], Some, IfOk, IfSome, if◌then◌else◌, length};
+ghost use Rattle.std.specs.List.{flat_map, list_all};
 ghost use Rattle.std.specs.Option.{option_copied};
-ghost use Rattle.mp_names.specs.Sets.{is_among};
 ghost use Rattle.mp_schema.specs.Conditions.{has_two_contexts, names_in};
+ghost use Rattle.mp_theory.specs.Tables.{IsRule};
 ghost use Rattle.mp_words.specs.declared.fail.TextWhy.TheVariants as why;
-ghost use Rattle.mp_words.specs.Faults.{fault_if, least_from};
-ghost use Rattle.mp_scripttext.specs.Statics.{all_given_faults, given_faults, given_of, missing_faults, need_faults, need_of, place_faults, rule_faults, rule_named, step_faults, term_faults};
+ghost use Rattle.mp_words.specs.Faults.{fault_if, is_behind, least_from};
+ghost use Rattle.mp_scripttext.specs.Names.{AreNew, need_numbers};
+ghost use Rattle.mp_scripttext.specs.Statics.{all_given_faults, missing_faults, need_faults, place_faults, rule_faults, rule_named, step_faults, term_faults};
 
+use crate::names::{find_need, given_names, need_names};
 use crate::raw::{RawGiven, RawStep};
-use mp_logic::{List, NoMemory, Sym};
+use mp_logic::{NoMemory, Sym};
+use mp_names::NameSet;
 use mp_schema::{Item, Schema};
 use mp_termtext::check_bound_term;
 use mp_theory::{Need, Rule, Theory};
@@ -23,7 +26,8 @@ const FREE: u32 = 200;
 
 /// The rule of this name.
 fn find_rule(theory: &Theory, name: Sym) -> Option<&Rule>
-    ensures { option_copied result ≡ rule_named theory.now name }
+    ensures rule { option_copied result ≡ rule_named theory.now name }
+    ensures whole { IfSome result (λ rule. IsRule rule.now) }
 {
     let place = theory.rule_named(name)?;
     theory.rule(place)
@@ -61,44 +65,26 @@ fn check_place(held: Option<Fault>, rule: &Rule, raw: &RawStep) -> Option<Fault>
     }
 }
 
-/// Whether a term of this name is given.
-fn is_given(given: &[RawGiven], name: Sym) -> bool
-    ensures given { result ≡ is_some (given_of given.now name) }
-    ensures among { result ≡ is_among (map (λ g. g.name.name) given.now) name }
-{
-    for other in given {
-        if other.name.name.0 == name.0 {
-            return true;
-        }
-    }
-    false
-}
-
 // All needs that aren't given are told at one place, so the first one ends the search. Behind a fault that is held no need
 // is looked for.
-fn check_missing(held: Option<Fault>, needs: &[Need], raw: &RawStep) -> Option<Fault>
-    ensures { result ≡ least_from held (flat_map (missing_faults raw.now) needs.now) }
+fn check_missing(
+    alloc: Global,
+    held: Option<Fault>,
+    needs: &[Need],
+    raw: &RawStep,
+) -> Result<Option<Fault>, NoMemory>
+    ensures { IfOk result (λ found. found ≡ least_from held (flat_map (missing_faults raw.now) needs.now)) }
 {
     if behind(held, raw.rule.left) {
-        return held;
+        return Ok(held);
     }
+    let names = given_names(alloc, raw.given.as_slice())?;
     for need in needs {
-        if !is_given(raw.given.as_slice(), need.name) {
-            return sooner_of(held, raw.rule.left, TextWhy::MissingWith);
+        if names.place(need.name).is_none() {
+            return Ok(sooner_of(held, raw.rule.left, TextWhy::MissingWith));
         }
     }
-    held
-}
-
-fn find_need(needs: &[Need], name: Sym) -> Option<&Need>
-    ensures { option_copied result ≡ need_of needs.now name }
-{
-    for need in needs {
-        if need.name.0 == name.0 {
-            return Some(need);
-        }
-    }
-    None
+    Ok(held)
 }
 
 fn check_need(held: Option<Fault>, need: Option<&Need>, raw: &RawGiven) -> Option<Fault>
@@ -116,48 +102,63 @@ fn check_need(held: Option<Fault>, need: Option<&Need>, raw: &RawGiven) -> Optio
     }
 }
 
-// Behind a fault that is held no name is looked for. So a name is compared only with names of needs that were given once,
-// and the time to look at very many given terms is still linear in a rule of few needs.
-fn check_given(
-    held: Option<Fault>,
-    needs: &[Need],
-    before: &[RawGiven],
-    raw: &RawGiven,
-) -> Option<Fault>
-    ensures { result ≡ least_from held (given_faults needs.now (map (λ g. g.name.name) before.now) raw.now) }
+fn check_twice(held: Option<Fault>, is_twice: bool, raw: &RawGiven) -> Option<Fault>
+    ensures { result ≡ least_from held (fault_if is_twice raw.now.name.left why.TwiceWith) }
 {
-    if behind(held, raw.name.left) {
-        return held;
-    }
-    let held = check_need(held, find_need(needs, raw.name.name), raw);
-    if is_given(before, raw.name.name) {
+    if is_twice {
         sooner_of(held, raw.name.left, TextWhy::TwiceWith)
     } else {
         held
     }
 }
 
-/// The soonest of the fault that is held and those of given terms, each behind those before it.
-fn check_all_given(held: Option<Fault>, needs: &[Need], given: &[RawGiven]) -> Option<Fault>
-    ensures { result ≡ least_from held (all_given_faults needs.now [] given.now) }
+/// Whether the names of given terms are all behind the fault that is held.
+fn are_behind(held: Option<Fault>, given: &[RawGiven]) -> bool
+    ensures { result ≡ list_all (λ g. is_behind held g.name.left) given.now }
 {
-    let mut held = held;
-    for (i, raw) in given.iter().enumerate() {
-        held = check_given(held, needs, &given[..i], raw);
-    }
-    held
+    given.iter().all(|raw| behind(held, raw.name.left))
 }
 
-/// The soonest of the fault that is held and those of a step by this rule, or by a name that no rule has.
-fn check_rule(held: Option<Fault>, rule: Option<&Rule>, raw: &RawStep) -> Option<Fault>
-    ensures { result ≡ least_from held (rule_faults (option_copied rule.entry) raw.now) }
+/// The soonest of the fault that is held and those of given terms, each behind those before it. The needs have different names.
+// Behind a fault that is held no name is looked for. So the needs of a rule are gone through only for a step that gives all of
+// them, and for the first step that doesn't.
+fn check_all_given(
+    alloc: Global,
+    held: Option<Fault>,
+    needs: &[Need],
+    given: &[RawGiven],
+) -> Result<Option<Fault>, NoMemory>
+    requires { AreNew (need_numbers needs.now) }
+    ensures { IfOk result (λ found. found ≡ least_from held (all_given_faults needs.now [] given.now)) }
 {
-    let Some(rule) = rule else {
-        return sooner_of(held, raw.rule.left, TextWhy::UnknownName);
-    };
+    if are_behind(held, given) {
+        return Ok(held);
+    }
+    let names = need_names(alloc, needs)?;
+    let mut before = NameSet::new(alloc);
+    let mut held = held;
+    for raw in given {
+        let is_twice = before.meet(raw.name.name)?;
+        held = check_need(held, find_need(needs, &names, raw.name.name), raw);
+        held = check_twice(held, is_twice, raw);
+    }
+    Ok(held)
+}
+
+/// The soonest of the fault that is held and those of a step by this rule.
+fn check_rule(
+    alloc: Global,
+    held: Option<Fault>,
+    rule: &Rule,
+    raw: &RawStep,
+) -> Result<Option<Fault>, NoMemory>
+    requires { IsRule rule.now }
+    ensures { IfOk result (λ found. found ≡ least_from held (rule_faults (Some rule.now) raw.now)) }
+{
     let held = check_place(held, rule, raw);
-    let held = check_missing(held, rule.needs.as_slice(), raw);
-    check_all_given(held, rule.needs.as_slice(), raw.given.as_slice())
+    let held = check_missing(alloc, held, rule.needs.as_slice(), raw)?;
+    let found = check_all_given(alloc, held, rule.needs.as_slice(), raw.given.as_slice())?;
+    Ok(found)
 }
 
 /// The soonest of the fault that is held and those of the given terms themselves.
@@ -186,5 +187,9 @@ pub(crate) fn check_step(
 {
     let held = check_written_number(held, 1, MOST_PLACE, raw.place);
     let held = check_terms(alloc, raw.given.as_slice(), held)?;
-    Ok(check_rule(held, find_rule(theory, raw.rule.name), raw))
+    let Some(rule) = find_rule(theory, raw.rule.name) else {
+        return Ok(sooner_of(held, raw.rule.left, TextWhy::UnknownName));
+    };
+    let found = check_rule(alloc, held, rule, raw)?;
+    Ok(found)
 }

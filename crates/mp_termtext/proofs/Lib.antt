@@ -2,6 +2,7 @@ pub mod FaultSteps
 pub mod Faultless
 pub mod LevelNames
 pub mod LexedAgain
+pub mod MetWalks
 pub mod NumberTexts
 pub mod OneTerm
 pub mod Printable

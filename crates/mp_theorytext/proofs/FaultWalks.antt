@@ -7,6 +7,8 @@ use Rattle.mp_words.specs.declared.fail.TextWhy.TheVariants as why
 use Rattle.mp_words.specs.Faults.{least_from, too_many, fault_if}
 use Rattle.mp_termtext.specs.Statics.{Checked, each_faults}
 use Rattle.mp_words.proofs.Soonest.{least_from_append}
+use Rattle.mp_termtext.proofs.FaultSteps.{two_parts, three_parts, four_parts}
+use Rattle.mp_termtext.proofs.Walks.{left_cons}
 use Rattle.mp_theorytext.specs.declared.raw.RawItem.{RawItem}
 use Rattle.mp_theorytext.specs.declared.raw.RawSchema.{RawSchema}
 use Rattle.mp_schema.specs.Conditions.{has}
@@ -17,34 +19,6 @@ use Rattle.mp_theorytext.specs.Scopes.{names_in, contexts_past, contexts_behind,
 use Rattle.mp_theorytext.specs.declared.uses.First.{First}
 use Rattle.mp_theorytext.specs.Uses.{Use, list_faults, argument_faults, find_first, unless_like, use_faults, uses_faults, uses_in_item, uses_in_items, uses_in_rule, hole_faults, raw_schema_holes}
 use Rattle.mp_theorytext.specs.Statics.{twice_faults, concl_item_faults, premise_item_faults, item_node_faults, item_faults, items_faults, item_left, node_faults, raw_schema_size_of, schema_faults, premises_faults, contexts_of, rule_faults, rules_faults}
-
--- what is left from place i on is the item there and the rest
-pub left_cons : {X : Type 0} (xs : List X) (i : ℕ) (x : X) → i < length xs → x ≡ get_or xs i x → drop i xs ≡ x ∷ drop (i + 1) xs
-left_cons xs i x lt is = drop-cons xs i x lt ∙ ap (λ y. y ∷ drop (suc i) xs) (sym is) ∙ ap (λ n. x ∷ drop n xs) (sym (add-one i))
-
-pub each_next : {X : Type 0} (f : X → Checked) (xs : List X) (i : ℕ) (x : X) (env now : List Sym) (d : ℕ) (held next whole : Option Fault) → i < length xs → x ≡ get_or xs i x → now ≡ env
-    → next ≡ least_from held (f x now d) → least_from held (each_faults (map f (drop i xs)) env d) ≡ whole → least_from next (each_faults (map f (drop (i + 1) xs)) env d) ≡ whole
-each_next f xs i x env now d held next whole lt is same found prev =
-    let rest = each_faults (map f (drop (i + 1) xs)) env d in
-    ap (λ o. least_from o rest) (found ∙ ap (λ v. least_from held (f x v d)) same) ∙ sym (least_from_append held (f x env d) rest)
-    ∙ ap (λ ys. least_from held (each_faults (map f ys) env d)) (sym (left_cons xs i x lt is)) ∙ prev
-
--- two, three or four parts, one after the other
-pub two_parts : (held a b : Option Fault) (fs gs : List Fault) → a ≡ least_from held fs → b ≡ least_from a gs → b ≡ least_from held (fs ++ gs)
-two_parts held a b fs gs e f = f ∙ ap (λ o. least_from o gs) e ∙ sym (least_from_append held fs gs)
-
-pub three_parts : (held a b c : Option Fault) (fs gs hs : List Fault) → a ≡ least_from held fs → b ≡ least_from a gs → c ≡ least_from b hs → c ≡ least_from held (fs ++ gs ++ hs)
-three_parts held a b c fs gs hs e f g = two_parts held b c (fs ++ gs) hs (two_parts held a b fs gs e f) g
-
-pub four_parts : (held a b c d : Option Fault) (fs gs hs is : List Fault) → a ≡ least_from held fs → b ≡ least_from a gs → c ≡ least_from b hs → d ≡ least_from c is → d ≡ least_from held (fs ++ gs ++ hs ++ is)
-four_parts held a b c d fs gs hs is e f g h = two_parts held c d (fs ++ gs ++ hs) is (three_parts held a b c fs gs hs e f g) h
-
--- one item more of a list
-pub flat_next : {X : Type 0} (f : X → List Fault) (xs : List X) (i : ℕ) (x : X) (held next whole : Option Fault) → i < length xs → x ≡ get_or xs i x → next ≡ least_from held (f x)
-    → least_from held (flat_map f (drop i xs)) ≡ whole → least_from next (flat_map f (drop (i + 1) xs)) ≡ whole
-flat_next f xs i x held next whole lt is found prev =
-    let rest = flat_map f (drop (i + 1) xs) in
-    ap (λ o. least_from o rest) found ∙ sym (least_from_append held (f x) rest) ∙ ap (λ ys. least_from held (flat_map f ys)) (sym (left_cons xs i x lt is)) ∙ prev
 
 module _ (final : Bool) (concl : List Sym) (items : List RawItem) (i : ℕ) (x : RawItem) (lt : i < length items) (is : x ≡ get_or items i x) where
   pub items_next : (known after env behind : List Sym) (held next whole : Option Fault) → next ≡ least_from held (item_faults final concl known env x) → after ≡ contexts_past x known → behind ≡ env_past x env

@@ -20,7 +20,7 @@ use Rattle.mp_termtext.proofs.Faultless.{nil_parts, no_fault}
 use Rattle.mp_theorytext.specs.declared.raw.RawRule.{RawRule}
 use Rattle.mp_theorytext.specs.Statics.{rule_faults, rules_faults}
 use Rattle.mp_theorytext.specs.Values.{schema_of, written_rule, rules_of}
-use Rattle.mp_theorytext.proofs.FaultWalks.{left_cons}
+use Rattle.mp_termtext.proofs.Walks.{left_cons}
 use Rattle.mp_theorytext.proofs.Faultlessness.{faultless}
 
 -- ## One rule

@@ -1,8 +1,13 @@
-use Rattle.std.proofs.Common.{ap, ◌∙◌}
+use Rattle.std.proofs.Common.{[], ap, ◌∙◌}
 use Rattle.std.specs.List.{flat_map}
+use Rattle.mp_scripttext.specs.Names.{all_met, given_numbers}
 use Rattle.mp_scripttext.specs.Statics.{missing_faults}
+use Rattle.mp_scripttext.proofs.MetNames.{new_given}
 use Rattle.mp_scripttext.proofs.StepLists.{nil_at}
 use Rattle.mp_scripttext.proofs.just.build_all_given.Goals as goal
+
+pub build_given-requires-clause-names : goal.build_given-requires-clause-names
+build_given-requires-clause-names c = c.in_ok-names.ensures ∙ ap (λ gs. all_met [] (given_numbers gs)) c.as_slice.ensures ∙ new_given c.args.needs.now c.args.step.now.given c.requires.given
 
 pub build_given-requires-clause-there : goal.build_given-requires-clause-there
 build_given-requires-clause-there c =

@@ -10,6 +10,9 @@ build_all_given-requires-clause-terms c = (step_keeps c.args.theory.now c.args.s
 pub build_all_given-requires-clause-there : goal.build_all_given-requires-clause-there
 build_all_given-requires-clause-there c = (step_keeps c.args.theory.now c.args.step.now c.in-Some.place c.in-Some-rule.rule.now (sym c.in-Some.ensures) (sym c.in-Some-rule.ensures.rule) c.requires).there
 
+pub build_all_given-requires-clause-given : goal.build_all_given-requires-clause-given
+build_all_given-requires-clause-given c = (step_keeps c.args.theory.now c.args.step.now c.in-Some.place c.in-Some-rule.rule.now (sym c.in-Some.ensures) (sym c.in-Some-rule.ensures.rule) c.requires).given
+
 pub returns : goal.returns
 returns c =
     let rules = c.args.theory.now in

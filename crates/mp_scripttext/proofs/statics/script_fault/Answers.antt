@@ -1,4 +1,7 @@
-use Rattle.mp_scripttext.proofs.EntryWalks.{entries_next, met_next}
+use Rattle.std.proofs.Common.{[]}
+use Rattle.mp_termtext.proofs.MetWalks.{met_next}
+use Rattle.mp_scripttext.specs.declared.raw.RawEntry.{RawEntry}
+use Rattle.mp_scripttext.proofs.EntryWalks.{entries_next}
 use Rattle.mp_scripttext.proofs.statics.script_fault.Goals as goal
 
 pub loop-raw-preserved : goal.loop-raw-preserved
@@ -9,6 +12,6 @@ loop-raw-preserved c =
     let met = c.loop-raw.names in
     let before = c.loop-raw.invariant.met in
     record {
-      met = met_next es i e c.loop-raw-test.true c.raw-item.is met before c.meet.new.self c.in_ok-is_taken.ensures.met;
+      met = met_next (λ (x : RawEntry). x.name.name) es i e c.loop-raw-test.true c.raw-item.is [] met c.meet.new.self before c.in_ok-is_taken.ensures.met;
       found = entries_next es i e c.loop-raw-test.true c.raw-item.is met before c.args.theory.now c.in_ok-is_taken.is_taken c.loop-raw.held c.check_taken-held.result c.in_ok-held.held _ c.in_ok-is_taken.ensures.known c.check_taken-held.ensures c.in_ok-held.ensures c.loop-raw.invariant.found;
     }

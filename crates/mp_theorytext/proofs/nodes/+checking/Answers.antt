@@ -1,6 +1,6 @@
 use Rattle.std.proofs.Common.{◌∙◌}
 use Rattle.mp_theorytext.specs.Statics.{node_faults, bound_node_faults}
-use Rattle.mp_theorytext.proofs.FaultWalks.{each_next}
+use Rattle.mp_termtext.proofs.FaultSteps.{each_next}
 use Rattle.mp_theorytext.proofs.nodes.+checking.Goals as goal
 
 pub check_bounds_nodes-loop-sub-preserved : goal.check_bounds_nodes-loop-sub-preserved
