@@ -1,11 +1,10 @@
 -- The least fault so far goes on from one part to the next.
-use Rattle.std.proofs.Common.{◌≡◌, ◌++◌, ◌+◌, ◌<◌, ℕ, suc, List, [], ◌∷◌, Option, Bool, true, if◌then◌else◌, refl, ap, sym, ◌∙◌, map, drop, length, get_or, drop-cons, add-one, nat_lt, nat_eq, ◌||◌, subst}
+use Rattle.std.proofs.Common.{◌≡◌, ◌++◌, ◌+◌, ◌<◌, ℕ, List, [], ◌∷◌, Option, Bool, true, refl, ap, sym, ◌∙◌, drop, length, get_or, nat_lt, nat_eq, ◌||◌, subst}
 use Rattle.std.specs.List.{flat_map}
 use Rattle.mp_logic.specs.declared.sym.Sym.{Sym}
 use Rattle.mp_words.specs.declared.fault.Fault.{Fault}
 use Rattle.mp_words.specs.declared.fail.TextWhy.TheVariants as why
 use Rattle.mp_words.specs.Faults.{least_from, too_many, fault_if}
-use Rattle.mp_termtext.specs.Statics.{Checked, each_faults}
 use Rattle.mp_words.proofs.Soonest.{least_from_append}
 use Rattle.mp_termtext.proofs.FaultSteps.{two_parts, three_parts, four_parts}
 use Rattle.mp_termtext.proofs.Walks.{left_cons}

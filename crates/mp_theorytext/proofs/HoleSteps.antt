@@ -1,10 +1,10 @@
 -- The holes of what is written: one level, and one hole after the other.
-use Rattle.std.proofs.Common.{◌≡◌, ◌++◌, ◌+◌, ◌<◌, ℕ, List, [], ◌∷◌, Option, None, Some, Bool, true, false, ◌||◌, not, cond, is_some, map, drop, length, get_or, drop-cons, add-one, nat_lt, nat_eq, refl, ap, sym, ◌∙◌, append_assoc, rules, arith}
-use Rattle.std.proofs.lemmas.Bool.Decides.{nat_tests}
+use Rattle.std.proofs.Common.{◌≡◌, ◌++◌, ◌+◌, ◌<◌, ℕ, List, [], ◌∷◌, Option, not, is_some, map, drop, length, get_or, drop-cons, add-one, refl, ap, sym, ◌∙◌, append_assoc, rules}
 use Rattle.std.proofs.lemmas.List.Folds.{flat_map-map}
-use Rattle.std.specs.List.{flat_map, position_or_len}
+use Rattle.std.specs.List.{flat_map}
 use Rattle.mp_logic.specs.declared.sym.Sym.{Sym}
-use Rattle.mp_names.specs.Sets.{is_met, place_of, Met}
+use Rattle.mp_names.proofs.Places.{placed_met}
+use Rattle.mp_names.specs.Sets.{place_of, Met}
 use Rattle.mp_schema.specs.Conditions.{has}
 use Rattle.mp_words.specs.declared.fault.Fault.{Fault}
 use Rattle.mp_words.specs.declared.fail.TextWhy.TheVariants as why
@@ -48,16 +48,6 @@ meta_holes t n cs xs ys l start last is y e =
 
 -- ## Holes that are known
 
--- a number has a place exactly where it was met
-is_placed : (met : List ℕ) (n : ℕ) → is_some (place_of met n) ≡ is_met met n
-is_placed [] n = refl
-is_placed (m ∷ met) n = by (nat_eq n m) (position_or_len (nat_eq n) met) (is_placed met n)
-  where
-    by : (b : Bool) (k : ℕ) → is_some (cond (nat_lt k (length met)) (Some k) None) ≡ is_met met n
-        → is_some (cond (nat_lt (cond (not b) (1 + k) 0) (length (m ∷ met))) (Some (cond (not b) (1 + k) 0)) None) ≡ (b || is_met met n)
-    by true k e = grind (arith, nat_tests)
-    by false k e = grind (arith, nat_tests, e)
-
 -- one hole more, where these names were met
 pub hole_next : (met : List ℕ) (known : List Sym) (holes : List RawName) (i : ℕ) (d : RawName) (place : Option ℕ) (held next whole : Option Fault) → Met met known → i < length holes → place ≡ place_of met (get_or holes i d).name.0
     → next ≡ least_from held (fault_if (not (is_some place)) (get_or holes i d).left why.UnboundParam)
@@ -65,7 +55,7 @@ pub hole_next : (met : List ℕ) (known : List Sym) (holes : List RawName) (i : 
 hole_next met known holes i d place held next whole all lt is found prev =
     let hole = get_or holes i d in
     let rest = hole_faults known (drop (i + 1) holes) in
-    let same : is_some place ≡ has known hole.name = ap (λ o. is_some o) is ∙ is_placed met hole.name.0 ∙ all hole.name ∙ among_has known hole.name in
+    let same : is_some place ≡ has known hole.name = ap (λ o. is_some o) is ∙ placed_met met hole.name.0 ∙ all hole.name ∙ among_has known hole.name in
     let found' : next ≡ least_from held (fault_if (not (has known hole.name)) hole.left why.UnboundParam) = found ∙ ap (λ b. least_from held (fault_if (not b) hole.left why.UnboundParam)) same in
     let opened : drop i holes ≡ hole ∷ drop (i + 1) holes = drop-cons holes i d lt ∙ ap (λ n. hole ∷ drop n holes) (sym (add-one i)) in
     two_parts held next (least_from next rest) (fault_if (not (has known hole.name)) hole.left why.UnboundParam) rest found' refl ∙ ap (λ hs. least_from held (hole_faults known hs)) (sym opened) ∙ prev
