@@ -6,10 +6,10 @@ cd "$(dirname "$0")/.."
 copy=$(mktemp -d)
 trap 'rm -rf "$copy"' EXIT
 mkdir "$copy/crates"
-cp -a crates/mp_logic crates/mp_lex crates/mp_names crates/mp_term crates/mp_termtext "$copy/crates"
+cp -a crates/mp_logic crates/mp_lex crates/mp_names crates/mp_term crates/mp_words crates/mp_termtext "$copy/crates"
 mkdir -p "$copy/crates/bench_texts/src"
 cp bench/texts_main.rt.txt "$copy/crates/bench_texts/src/main.rt"
-grep -E '^mp_(logic|lex|names|term|termtext):' crates.txt > "$copy/crates.txt"
+grep -E '^mp_(logic|lex|names|term|words|termtext):' crates.txt > "$copy/crates.txt"
 printf 'bench_texts: mp_termtext mp_names mp_logic anyhow\n' >> "$copy/crates.txt"
 for nodes in 10000 20000; do
     # one hypothesis, one operator above, and pairs of a binder's operator and its variable

@@ -7,12 +7,12 @@ cd "$(dirname "$0")/.."
 copy=$(mktemp -d)
 trap 'rm -rf "$copy"' EXIT
 mkdir "$copy/crates"
-for crate in logic lex names term subst termtext schema theory theorytext; do
+for crate in logic lex names term subst words termtext schema theory theorytext; do
     cp -a "crates/mp_$crate" "$copy/crates"
 done
 mkdir -p "$copy/crates/bench_theories/src"
 cp bench/theories_main.rt.txt "$copy/crates/bench_theories/src/main.rt"
-grep -E '^mp_(logic|lex|names|term|subst|termtext|schema|theory|theorytext):' crates.txt > "$copy/crates.txt"
+grep -E '^mp_(logic|lex|names|term|subst|words|termtext|schema|theory|theorytext):' crates.txt > "$copy/crates.txt"
 printf 'bench_theories: mp_theorytext mp_theory mp_names mp_logic anyhow\n' >> "$copy/crates.txt"
 for kind in rules few distinct; do
     for size in 262144 524288 1048576; do
@@ -48,8 +48,6 @@ done
 cd "$copy/crates/bench_theories"
 for kind in rules few distinct; do
     for size in 262144 524288 1048576; do
-        # a reading takes minutes where the names of one rule are distinct
-        if [ "$kind" = distinct ]; then readings=1; else readings=5; fi
-        rt run -- "$copy/$kind.$size" "$readings"
+        rt run -- "$copy/$kind.$size" 5
     done
 done

@@ -1,5 +1,5 @@
 -- The least fault so far goes on from one part to the next.
-use Rattle.std.proofs.Common.{◌≡◌, ◌++◌, ◌+◌, ◌<◌, ℕ, List, [], ◌∷◌, Option, Bool, true, refl, ap, sym, ◌∙◌, drop, length, get_or, nat_lt, nat_eq, ◌||◌, subst}
+use Rattle.std.proofs.Common.{◌≡◌, ◌++◌, ◌+◌, ◌<◌, ℕ, List, [], ◌∷◌, Option, Bool, true, if◌then◌else◌, refl, ap, sym, ◌∙◌, drop, length, get_or, nat_lt, nat_eq, ◌||◌, subst}
 use Rattle.std.specs.List.{flat_map}
 use Rattle.mp_logic.specs.declared.sym.Sym.{Sym}
 use Rattle.mp_words.specs.declared.fault.Fault.{Fault}
