@@ -3,7 +3,8 @@ ghost use Rattle.mp_names.specs.Table.{Extends};
 ghost use Rattle.mp_words.specs.Texts.{LexesText, byte_of, error_at, of_lexical, stopped};
 ghost use Rattle.mp_words.specs.declared.fail.TextFail.TheVariants.{Bad};
 
-use crate::{Fault, ReadFail, TextErr, TextFail, TextWhy, Word, words};
+use crate::numbering::words;
+use crate::{Fault, ReadFail, TextErr, TextFail, TextWhy, Word};
 use mp_lex::{LexFail, LexWhy, Token, tokens};
 use mp_logic::List;
 use mp_names::Names;

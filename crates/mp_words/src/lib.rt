@@ -16,10 +16,9 @@ pub use fail::{TextErr, TextFail, TextWhy};
 pub use fault::{Fault, behind, least_is_least, sooner_of};
 pub use lexed::{Lexed, lex_text};
 pub use list::{Beginning, Reader, listed, many, repeated, separated, whole};
-pub use numbering::words;
 pub use parts::{
-    ReadFail, capital, capital_at, capital_variable, keyword, mark, name, name_at, name_behind,
-    number, number_at, stuck,
+    ReadFail, capital_at, capital_variable, keyword, mark, name, name_at, name_behind, number_at,
+    stuck,
 };
 pub use range::{check_number, check_written_number};
 pub use raw::{RawName, RawNumber};

@@ -14,7 +14,7 @@ use std::alloc::Global;
 /// The words of the tokens of a source, one for each, from left to right. Each name, each variable's name
 /// without its quote and each string's content is entered into the table of names, so that the table has at
 /// most one name more for each token. Earlier names keep their numbers, also where there is no memory.
-pub fn words(
+pub(crate) fn words(
     alloc: Global,
     names: &mut Names,
     source: &[u8],

@@ -1,5 +1,5 @@
 ghost use Rattle.std.specs.Prelude.{◌≡◌, ◌<◌, length, IfOk, MatchOption};
-ghost use Rattle.mp_words.specs.Parts.{No, None_of, IsMark, IsWord, IsName, IsCap, IsCapVar, IsNumber, IsNameAt, IsCapAt, IsNumberAt, IsNameBehind, StuckNameBehind, Reads};
+ghost use Rattle.mp_words.specs.Parts.{No, None_of, IsMark, IsWord, IsName, IsCapVar, IsNameAt, IsCapAt, IsNumberAt, IsNameBehind, StuckNameBehind, Reads};
 ghost use Rattle.mp_words.specs.declared.parts.ReadFail.TheVariants.{Stuck};
 
 use crate::raw::{RawName, RawNumber};
@@ -59,32 +59,12 @@ pub fn name(words: &[Word]) -> Option<(Sym, &[Word])>
     }
 }
 
-/// The name with a capital letter at the front, and what is behind it.
-pub fn capital(words: &[Word]) -> Option<(Sym, &[Word])>
-    ensures { MatchOption result (None_of IsCap words.now) (λ p. IsCap p.0 words.now p.1.now) }
-{
-    match words.split_first() {
-        Some((Word::Cap(name), rest)) => Some((*name, rest)),
-        _ => None,
-    }
-}
-
 /// The second-order variable at the front, and what is behind it.
 pub fn capital_variable(words: &[Word]) -> Option<(Sym, &[Word])>
     ensures { MatchOption result (None_of IsCapVar words.now) (λ p. IsCapVar p.0 words.now p.1.now) }
 {
     match words.split_first() {
         Some((Word::CapVar(name), rest)) => Some((*name, rest)),
-        _ => None,
-    }
-}
-
-/// The number at the front, and what is behind it.
-pub fn number(words: &[Word]) -> Option<(i64, &[Word])>
-    ensures { MatchOption result (None_of IsNumber words.now) (λ p. IsNumber p.0 words.now p.1.now) }
-{
-    match words.split_first() {
-        Some((Word::Num(number), rest)) => Some((*number, rest)),
         _ => None,
     }
 }

@@ -1,4 +1,5 @@
-use crate::{Keyword, Mark, Word, words};
+use crate::numbering::words;
+use crate::{Keyword, Mark, Word};
 use mp_lex::tokens;
 use mp_logic::{List, Sym};
 use mp_names::Names;
