@@ -21,10 +21,12 @@ use Rattle.mp_words.specs.Parts.{No, None_of, Lacks, IsMark, IsName, Both, Stuck
 abbrev pub IsVariable : Sym × Option ℕ → List Word → List Word → Type 0
 IsVariable v ts rest = ts ≡ word.SmallVar v.0 v.1 ∷ rest
 
+-- a number or a string
 abbrev pub IsParamWord : Param → List Word → List Word → Type 0
 IsParamWord (param.Num n) ts rest = ts ≡ word.Num n ∷ rest
 IsParamWord (param.Str s) ts rest = ts ≡ word.Str s ∷ rest
 
+-- a parameter, and its place
 abbrev pub IsParam : RawParam → List Word → List Word → Type 0
 IsParam p ts rest = IsParamWord p.value ts rest × (p.left ≡ length ts)
 
@@ -32,12 +34,15 @@ IsParam p ts rest = IsParamWord p.value ts rest × (p.left ≡ length ts)
 abbrev pub AreParams : List RawParam → List Word → List Word → Type 0
 AreParams = Optional (IsMark mark.OpenBracket) [] (Separated IsParam (IsMark mark.Semicolon) (IsMark mark.CloseBracket))
 
+-- where parameters are stuck: behind their bracket, if it stands
 abbrev pub StuckParams : List Word → List Word → Type 0
 StuckParams = StuckOptional (IsMark mark.OpenBracket) (StuckSeparated IsParam (Lacks IsParam) (IsMark mark.Semicolon) (IsMark mark.CloseBracket))
 
+-- the name of a binder, and its place
 abbrev pub IsBinder : Binder → List Word → List Word → Type 0
 IsBinder b ts rest = IsName b.name ts rest × (b.left ≡ length ts)
 
+-- `,` or `.` stands at the front
 abbrev pub marks_binders : List Word → Bool
 marks_binders (word.Mark mark.Comma ∷ ts) = true
 marks_binders (word.Mark mark.Dot ∷ ts) = true
@@ -56,6 +61,7 @@ AreSomeBinders = Separated IsBinder (IsMark mark.Comma) (IsMark mark.Dot)
 abbrev pub AreBinders : List Binder → List Word → List Word → Type 0
 AreBinders bs ts rest = ((begins_binders ts ≡ false) × (bs ≡ []) × (rest ≡ ts)) ⊎ ((begins_binders ts ≡ true) × AreSomeBinders bs ts rest)
 
+-- where binders are stuck: only where they begin
 abbrev pub StuckBinders : List Word → List Word → Type 0
 StuckBinders ts rest = (begins_binders ts ≡ true) × StuckSeparated IsBinder (Lacks IsBinder) (IsMark mark.Comma) (IsMark mark.Dot) ts rest
 
@@ -86,14 +92,17 @@ mutual
     in_params : (ts rest : List Word) (n : Sym) (us : List Word) → IsName n ts us → StuckParams us rest → StuckTerm ts rest
     in_subs : (ts rest : List Word) (n : Sym) (ps : List RawParam) (us vs : List Word) → IsName n ts us → AreParams ps us vs → StuckSubs vs rest → StuckTerm ts rest
 
+  -- where the subterms in braces are stuck: behind their brace, if it stands
   pub data StuckSubs : List Word → List Word → Type 0 where
     in_braces : (ts rest : List Word) (us : List Word) → IsMark mark.OpenBrace ts us → StuckBounds us rest → StuckSubs ts rest
 
+  -- where subterms up to the end of their list are stuck
   pub data StuckBounds : List Word → List Word → Type 0 where
     in_bound : (ts rest : List Word) → StuckBound ts rest → StuckBounds ts rest
     behind_bound : (ts rest : List Word) (k : RawBound) → IsBound k ts rest → No (IsMark mark.CloseBrace) rest → No (IsMark mark.Semicolon) rest → StuckBounds ts rest
     in_other_bounds : (ts rest : List Word) (k : RawBound) (us vs : List Word) → IsBound k ts us → IsMark mark.Semicolon us vs → StuckBounds vs rest → StuckBounds ts rest
 
+  -- where a subterm is stuck: in its binders or in its body
   pub data StuckBound : List Word → List Word → Type 0 where
     in_binders : (ts rest : List Word) → StuckBinders ts rest → StuckBound ts rest
     in_body : (ts rest : List Word) (bs : List Binder) (us : List Word) → AreBinders bs ts us → StuckTerm us rest → StuckBound ts rest
@@ -102,6 +111,7 @@ mutual
 abbrev pub IsHyp : RawHyp → List Word → List Word → Type 0
 IsHyp h ts rest = Both IsName (After (IsMark mark.Colon) IsTerm) (h.name, h.term) ts rest × (h.left ≡ length ts)
 
+-- where a hypothesis is stuck
 abbrev pub StuckHyp : List Word → List Word → Type 0
 StuckHyp = StuckBoth IsName (Lacks IsName) (StuckAfter (IsMark mark.Colon) StuckTerm)
 
@@ -109,6 +119,7 @@ StuckHyp = StuckBoth IsName (Lacks IsName) (StuckAfter (IsMark mark.Colon) Stuck
 abbrev pub AreHyps : List RawHyp → List Word → List Word → Type 0
 AreHyps = Listed IsHyp (IsMark mark.Semicolon) (IsMark mark.Turnstile)
 
+-- where hypotheses are stuck: only where `>-` doesn't stand at once
 abbrev pub StuckHyps : List Word → List Word → Type 0
 StuckHyps = StuckListed IsHyp StuckHyp (IsMark mark.Semicolon) (IsMark mark.Turnstile)
 
@@ -116,5 +127,6 @@ StuckHyps = StuckListed IsHyp StuckHyp (IsMark mark.Semicolon) (IsMark mark.Turn
 abbrev pub IsSequent : RawSequent → List Word → List Word → Type 0
 IsSequent s ts rest = Both AreHyps IsTerm (s.hyps, s.concl) ts rest × (s.left ≡ length ts)
 
+-- where a sequent is stuck: in its hypotheses or in its conclusion
 abbrev pub StuckSequent : List Word → List Word → Type 0
 StuckSequent = StuckBoth AreHyps StuckHyps StuckTerm

@@ -52,14 +52,17 @@ binders_text level (suc n) = name_text level ++ further_binders_text (level + 1)
 abbrev pub Scoped : Type 0
 Scoped = ℕ → List ℕ
 
+-- what is printed, where so many variables are in scope
 abbrev pub at_scope : ℕ → Scoped → List ℕ
 at_scope scope text = text scope
 
+-- the text of a variable or an operator, by the texts of its subterms
 abbrev pub term_step : List (List ℕ) → Term-F Scoped Scoped → Scoped
 term_step names (layer.Var level) scope = codes "'" ++ name_text level
 term_step names (layer.Op op params subs) scope =
     text_of names op.0 ++ list_text (codes "[") (codes "]") (map (param_text names) params) ++ list_text (codes "{") (codes "}") (map (at_scope scope) subs)
 
+-- the text of a subterm, by the text of its body
 abbrev pub bound_step : Bound-F Scoped Scoped → Scoped
 bound_step b scope = binders_text scope b.binders ++ b.body (scope + b.binders)
 

@@ -13,6 +13,7 @@ use Rattle.mp_words.specs.Texts.{IsText, OneText, ReadsText}
 abbrev pub IsTermText : ℕ → List (List ℕ) → List ℕ → Term → Type 0
 IsTermText free = IsText (Whole IsTerm) (StuckWhole IsTerm StuckTerm) (term_faults free) (term_value free)
 
+-- what a reader answers: the term of a text, or its one fault
 abbrev pub ReadsTerm : ℕ → List (List ℕ) → List ℕ → Result Term TextFail → List (List ℕ) → Type 0
 ReadsTerm free = ReadsText (Whole IsTerm) (StuckWhole IsTerm StuckTerm) (term_faults free) (term_value free)
 
@@ -20,6 +21,7 @@ ReadsTerm free = ReadsText (Whole IsTerm) (StuckWhole IsTerm StuckTerm) (term_fa
 abbrev pub IsSequentText : List (List ℕ) → List ℕ → Sequent → Type 0
 IsSequentText = IsText (Whole IsSequent) (StuckWhole IsSequent StuckSequent) sequent_faults sequent_value
 
+-- what a reader answers: the sequent of a text, or its one fault
 abbrev pub ReadsSequent : List (List ℕ) → List ℕ → Result Sequent TextFail → List (List ℕ) → Type 0
 ReadsSequent = ReadsText (Whole IsSequent) (StuckWhole IsSequent StuckSequent) sequent_faults sequent_value
 

@@ -25,6 +25,7 @@ abbrev pub is_written_param : List (List ℕ) → Param → Bool
 is_written_param names (Num n) = fits_i64 n
 is_written_param names (Str sym) = nat_lt sym.0 (length names) && is_text kind.Str (quoted (text_of names sym.0))
 
+-- whether a variable or an operator can be written, by whether its subterms can
 abbrev pub written_step : List (List ℕ) → Term-F Bool Bool → Bool
 written_step names (layer.Var level) = true
 written_step names (layer.Op op params subs) =
@@ -34,6 +35,7 @@ written_step names (layer.Op op params subs) =
 abbrev pub is_written : List (List ℕ) → Term → Bool
 is_written names = fold-Term Bool Bool (written_step names) body_step
 
+-- and so it is with each hypothesis and the conclusion
 abbrev pub is_written_sequent : List (List ℕ) → Sequent → Bool
 is_written_sequent names s = list_all (is_written names) s.hyps && is_written names s.concl
 

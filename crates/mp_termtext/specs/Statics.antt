@@ -12,6 +12,7 @@ use Rattle.mp_words.specs.declared.fail.TextWhy.TheVariants as why
 use Rattle.mp_words.specs.declared.fault.Fault.{Fault}
 use Rattle.mp_words.specs.Faults.{fault, fault_if, too_many}
 
+-- a place behind the first of a list, counted from the first; else the first, where the test passes
 abbrev pub or_here : Option ℕ → Bool → Option ℕ
 or_here (Some i) here = Some (1 + i)
 or_here None true = Some 0
@@ -28,6 +29,7 @@ free_level free None = None
 free_level free (Some zero) = None
 free_level free (Some (suc level)) = if nat_lt level free then Some level else None
 
+-- the level of a name that is bound at this place; else the free one of its number
 abbrev pub level_by : ℕ → Option ℕ → Option ℕ → Option ℕ
 level_by free (Some i) k = Some (free + i)
 level_by free None k = free_level free k
@@ -36,6 +38,7 @@ level_by free None k = free_level free k
 abbrev pub level_of : ℕ → List Sym → Sym → Option ℕ → Option ℕ
 level_of free env name k = level_by free (place_in env name) k
 
+-- the names of binders
 abbrev pub names_of : List Binder → List Sym
 names_of bs = map (λ b. b.name) bs
 
@@ -43,6 +46,7 @@ names_of bs = map (λ b. b.name) bs
 abbrev pub deep : ℕ → ℕ → List Fault
 deep depth l = fault_if (nat_lt 200 depth) l why.TooDeep
 
+-- the fault of a variable without a level
 abbrev pub unless_bound : ℕ → Option ℕ → List Fault
 unless_bound l None = fault l why.UnboundVar
 unless_bound l (Some level) = []
@@ -51,14 +55,17 @@ unless_bound l (Some level) = []
 abbrev pub Checked : Type 0
 Checked = List Sym → ℕ → List Fault
 
+-- the faults of all of them, behind the same names and at one depth
 abbrev pub each_faults : List Checked → Checked
 each_faults [] env depth = []
 each_faults (s ∷ ss) env depth = s env depth ++ each_faults ss env depth
 
+-- the faults of a variable or an operator, by those of its subterms
 abbrev pub faults_step : ℕ → RawTerm-F Checked Checked → Checked
 faults_step free (layer.Var name k l) env depth = deep depth l ++ unless_bound l (level_of free env name k)
 faults_step free (layer.Op name ps subs l) env depth = deep depth l ++ too_many (λ p. p.left) 16 ps ++ each_faults subs env (depth + 1)
 
+-- the faults of a subterm, by those of its body
 abbrev pub faults_bound_step : RawBound-F Checked Checked → Checked
 faults_bound_step b env depth = too_many (λ b. b.left) 8 b.binders ++ b.body (env ++ names_of b.binders) depth
 
@@ -70,10 +77,12 @@ faults_of free = fold-RawTerm Checked Checked (faults_step free) faults_bound_st
 abbrev pub bound_faults_of : ℕ → RawBound → List Sym → ℕ → List Fault
 bound_faults_of free = fold-RawBound Checked Checked (faults_step free) faults_bound_step
 
+-- one node and those of its subterms
 abbrev pub raw_size_step : RawTerm-F ℕ ℕ → ℕ
 raw_size_step (layer.Var name k l) = 1
 raw_size_step (layer.Op name ps subs l) = 1 + sum subs
 
+-- what is counted of a subterm is what is counted of its body
 abbrev pub raw_size_bound_step : RawBound-F ℕ ℕ → ℕ
 raw_size_bound_step b = b.body
 
@@ -81,6 +90,7 @@ raw_size_bound_step b = b.body
 abbrev pub raw_size_of : RawTerm → ℕ
 raw_size_of = fold-RawTerm ℕ ℕ raw_size_step raw_size_bound_step
 
+-- how many words are left where this node begins
 abbrev pub left_step : RawTerm-F ℕ ℕ → ℕ
 left_step (layer.Var name k l) = l
 left_step (layer.Op name ps subs l) = l
@@ -97,6 +107,7 @@ term_faults free t = faults_of free t [] 1 ++ fault_if (nat_lt 20000 (raw_size_o
 abbrev pub bound_term_faults : ℕ → ℕ → RawBound → List Fault
 bound_term_faults free l b = bound_faults_of free b [] 1 ++ fault_if (nat_lt 20000 (raw_size_of b.body)) l why.TooBig
 
+-- the names of hypotheses
 abbrev pub hyp_names : List RawHyp → List Sym
 hyp_names hs = map (λ h. h.name) hs
 

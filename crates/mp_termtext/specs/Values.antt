@@ -12,14 +12,17 @@ use Rattle.mp_termtext.specs.declared.raw.RawHyp.{RawHyp}
 use Rattle.mp_termtext.specs.declared.raw.RawSequent.{RawSequent}
 use Rattle.mp_termtext.specs.Statics.{bound_faults_of, each_faults, faults_of, hyp_names, level_of, names_of}
 
+-- the subterms behind the same names
 abbrev pub each_value : List (List Sym → Bound) → List Sym → List Bound
 each_value [] env = []
 each_value (s ∷ ss) env = s env ∷ each_value ss env
 
+-- the value of a variable or an operator, by those of its subterms
 abbrev pub value_step : ℕ → RawTerm-F (List Sym → Term) (List Sym → Bound) → List Sym → Term
 value_step free (layer.Var name k l) env = Var (unwrap_or (level_of free env name k) 0)
 value_step free (layer.Op name ps subs l) env = Op name (map (λ p. p.value) ps) (each_value subs env)
 
+-- the value of a subterm, by that of its body
 abbrev pub value_bound_step : RawBound-F (List Sym → Term) (List Sym → Bound) → List Sym → Bound
 value_bound_step b env = record { binders = length b.binders; body = b.body (env ++ names_of b.binders) }
 
@@ -52,5 +55,6 @@ IsFaultless free t env = (d : ℕ) × (faults_of free t env d ≡ []) × (length
 abbrev pub AreFaultless : ℕ → List RawBound → List Sym → Type 0
 AreFaultless free ks env = (d : ℕ) × (each_faults (map (bound_faults_of free) ks) env d ≡ []) × (length env ≤ 184 + 8 * d)
 
+-- nor in a subterm, at the depth of its body
 abbrev pub IsFaultlessBound : ℕ → RawBound → List Sym → Type 0
 IsFaultlessBound free k env = (d : ℕ) × (bound_faults_of free k env d ≡ []) × (length env ≤ 184 + 8 * d)

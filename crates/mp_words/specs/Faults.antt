@@ -70,6 +70,7 @@ is_behind (Some f) l = nat_lt l f.left
 abbrev pub fault : ℕ → TextWhy → List Fault
 fault l w = record { left = l; why = w } ∷ []
 
+-- the fault at the place of the item, if there is one
 abbrev pub fault_at_any : {X : Type 0} → (X → ℕ) → TextWhy → Option X → List Fault
 fault_at_any place w None = []
 fault_at_any place w (Some x) = fault (place x) w
@@ -92,6 +93,7 @@ abbrev pub NoneSooner : Fault → List Fault → Type 0
 NoneSooner f [] = Unit {0}
 NoneSooner f (g ∷ gs) = (is_sooner g f ≡ false) × NoneSooner f gs
 
+-- the fault is one of these, and none of them is sooner; no fault only where there are none
 abbrev pub IsLeastOf : List Fault → Option Fault → Type 0
 IsLeastOf fs None = fs ≡ []
 IsLeastOf fs (Some f) = IsOneOf f fs × NoneSooner f fs

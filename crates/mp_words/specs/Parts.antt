@@ -54,6 +54,7 @@ IsCap n ts rest = ts ≡ word.Cap n ∷ rest
 abbrev pub IsCapVar : Part Sym
 IsCapVar n ts rest = ts ≡ word.CapVar n ∷ rest
 
+-- a number
 abbrev pub IsNumber : Part ℤ
 IsNumber n ts rest = ts ≡ word.Num n ∷ rest
 
@@ -81,6 +82,7 @@ Lacks A ts rest = None_of A ts × (rest ≡ ts)
 abbrev pub Both : {X Y : Type 0} → Part X → Part Y → Part (X × Y)
 Both A B v ts rest = (us : List Word) × A v.0 ts us × B v.1 us rest
 
+-- stuck in the one, or behind it in the other
 abbrev pub StuckBoth : {X : Type 0} → Part X → Stop → Stop → Stop
 StuckBoth {X} A SA SB ts rest = SA ts rest ⊎ ((x : X) × (us : List Word) × A x ts us × SB us rest)
 
@@ -88,6 +90,7 @@ StuckBoth {X} A SA SB ts rest = SA ts rest ⊎ ((x : X) × (us : List Word) × A
 abbrev pub After : {X : Type 0} → Sign → Part X → Part X
 After S A x ts rest = (us : List Word) × S ts us × A x us rest
 
+-- stuck where the sign doesn't stand, or behind it in the part
 abbrev pub StuckAfter : Sign → Stop → Stop
 StuckAfter S SA ts rest = LacksSign S ts rest ⊎ ((us : List Word) × S ts us × SA us rest)
 
@@ -95,6 +98,7 @@ StuckAfter S SA ts rest = LacksSign S ts rest ⊎ ((us : List Word) × S ts us �
 abbrev pub IsNameBehind : Keyword → Part RawName
 IsNameBehind k = After (IsWord k) IsNameAt
 
+-- where a name behind this word is stuck
 abbrev pub StuckNameBehind : Keyword → Stop
 StuckNameBehind k = StuckAfter (IsWord k) (Lacks IsNameAt)
 
@@ -102,6 +106,7 @@ StuckNameBehind k = StuckAfter (IsWord k) (Lacks IsNameAt)
 abbrev pub Optional : {X : Type 0} → Sign → X → Part X → Part X
 Optional S none A x ts rest = (No S ts × (x ≡ none) × (rest ≡ ts)) ⊎ After S A x ts rest
 
+-- stuck in the part behind its sign, if that stands
 abbrev pub StuckOptional : Sign → Stop → Stop
 StuckOptional S SA ts rest = (us : List Word) × S ts us × SA us rest
 
@@ -109,6 +114,7 @@ StuckOptional S SA ts rest = (us : List Word) × S ts us × SA us rest
 abbrev pub Ended : {X : Type 0} → Part X → Sign → Part X
 Ended A S x ts rest = (us : List Word) × A x ts us × S us rest
 
+-- stuck in the part, or behind it where the sign doesn't stand
 abbrev pub StuckEnded : {X : Type 0} → Part X → Stop → Sign → Stop
 StuckEnded {X} A SA S ts rest = SA ts rest ⊎ ((x : X) × (us : List Word) × A x ts us × LacksSign S us rest)
 
@@ -127,6 +133,7 @@ abbrev pub Maybe : {X : Type 0} → Part X → Part (Option X)
 Maybe A None ts rest = (ts ≡ []) × (rest ≡ [])
 Maybe A (Some x) ts rest = More ts × A x ts rest
 
+-- stuck in the part, if there are words
 abbrev pub StuckMaybe : Stop → Stop
 StuckMaybe SA ts rest = More ts × SA ts rest
 
@@ -134,6 +141,7 @@ StuckMaybe SA ts rest = More ts × SA ts rest
 abbrev pub Whole : {X : Type 0} → Part X → Part X
 Whole A x ts rest = A x ts [] × (rest ≡ [])
 
+-- where a part that is all of the words is stuck: in it, or at the first word behind it
 abbrev pub StuckWhole : {X : Type 0} → Part X → Stop → Stop
 StuckWhole {X} A SA ts rest = SA ts rest ⊎ ((x : X) × A x ts rest × More rest)
 
@@ -143,6 +151,7 @@ module _ {X : Type 0} (A : X → List Word → List Word → Type 0) where
     no_more : (xs : List X) (ts rest : List Word) → xs ≡ [] → ts ≡ [] → rest ≡ [] → Many xs ts rest
     one_more : (xs : List X) (ts rest : List Word) (x : X) (others : List X) (us : List Word) → xs ≡ x ∷ others → More ts → A x ts us → Many others us rest → Many xs ts rest
 
+  -- where parts up to the end of the words are stuck
   pub data StuckMany (SA : List Word → List Word → Type 0) : List Word → List Word → Type 0 where
     in_one : (ts rest : List Word) → More ts → SA ts rest → StuckMany SA ts rest
     in_others : (ts rest : List Word) (x : X) (us : List Word) → More ts → A x ts us → StuckMany SA us rest → StuckMany SA ts rest
@@ -152,6 +161,7 @@ module _ {X : Type 0} (A : X → List Word → List Word → Type 0) where
     no_further : (xs : List X) (ts rest : List Word) → xs ≡ [] → begins ts ≡ false → rest ≡ ts → Repeated begins xs ts rest
     one_further : (xs : List X) (ts rest : List Word) (x : X) (others : List X) (us : List Word) → xs ≡ x ∷ others → begins ts ≡ true → A x ts us → Repeated begins others us rest → Repeated begins xs ts rest
 
+  -- where parts, as long as the words in front begin one, are stuck
   pub data StuckRepeated (begins : List Word → Bool) (SA : List Word → List Word → Type 0) : List Word → List Word → Type 0 where
     in_first : (ts rest : List Word) → begins ts ≡ true → SA ts rest → StuckRepeated begins SA ts rest
     in_further : (ts rest : List Word) (x : X) (us : List Word) → begins ts ≡ true → A x ts us → StuckRepeated begins SA us rest → StuckRepeated begins SA ts rest
@@ -161,6 +171,7 @@ module _ {X : Type 0} (A : X → List Word → List Word → Type 0) where
     last : (xs : List X) (ts rest : List Word) (x : X) (us : List Word) → xs ≡ x ∷ [] → A x ts us → E us rest → Separated S E xs ts rest
     more : (xs : List X) (ts rest : List Word) (x : X) (others : List X) (us vs : List Word) → xs ≡ x ∷ others → A x ts us → No E us → S us vs → Separated S E others vs rest → Separated S E xs ts rest
 
+  -- where parts with a separator between and an end are stuck: in one of them, or behind one where neither stands
   pub data StuckSeparated (SA S E : List Word → List Word → Type 0) : List Word → List Word → Type 0 where
     here : (ts rest : List Word) → SA ts rest → StuckSeparated SA S E ts rest
     behind : (ts rest : List Word) (x : X) → A x ts rest → No E rest → No S rest → StuckSeparated SA S E ts rest
@@ -170,6 +181,7 @@ module _ {X : Type 0} (A : X → List Word → List Word → Type 0) where
 abbrev pub Listed : {X : Type 0} → Part X → Sign → Sign → Part (List X)
 Listed A S E xs ts rest = ((xs ≡ []) × E ts rest) ⊎ (No E ts × Separated A S E xs ts rest)
 
+-- where a list that may end at once is stuck: only where it doesn't
 abbrev pub StuckListed : {X : Type 0} → Part X → Stop → Sign → Sign → Stop
 StuckListed A SA S E ts rest = No E ts × StuckSeparated A SA S E ts rest
 

@@ -22,6 +22,7 @@ use Rattle.mp_words.specs.Words.{pieces_of, words_of, names_after}
 abbrev pub words_in : List (List ℕ) → List ℕ → List Token → List Word
 words_in names source ts = words_of names (pieces_of source ts)
 
+-- the table of names behind the tokens; behind a lexical fault it is as it was
 abbrev pub names_by : List (List ℕ) → List ℕ → Reading → List (List ℕ)
 names_by names source (Ok ts) = names_after names (pieces_of source ts)
 names_by names source (Err f) = names
@@ -38,6 +39,7 @@ of_lexical lex_why.BadNumber = why.BadNumber
 of_lexical lex_why.BadString = why.BadString
 of_lexical lex_why.TooNested = why.TooNested
 
+-- the first byte of the token, or this byte where there is none
 abbrev pub from_or : ℕ → Option Token → ℕ
 from_or end None = end
 from_or end (Some t) = t.from

@@ -52,6 +52,7 @@ other_marks =
     ∷ (codes "&", mark.And) ∷ (codes ",", mark.Comma) ∷ (codes ";", mark.Semicolon) ∷ (codes ":", mark.Colon)
     ∷ (codes ":=", mark.Becomes) ∷ (codes ".", mark.Dot) ∷ (codes "@", mark.At) ∷ []
 
+-- the mark, or the bar where there is none
 abbrev pub or_bar : Option Mark → Mark
 or_bar None = mark.Bar
 or_bar (Some m) = m
@@ -60,6 +61,7 @@ or_bar (Some m) = m
 abbrev pub mark_of : List ℕ → Mark
 mark_of text = or_bar (spelled other_marks text)
 
+-- the number with `-` before it
 abbrev pub minus : ℕ → ℤ
 minus zero = pos 0
 minus (suc n) = negsuc n
@@ -94,6 +96,7 @@ name_of kind.Num text = None
 name_of kind.Str text = Some (content_of text)
 name_of kind.Mark text = None
 
+-- the table of names with this name, if there is one
 abbrev pub entered_if : List (List ℕ) → Option (List ℕ) → List (List ℕ)
 entered_if names None = names
 entered_if names (Some name) = entered names name
