@@ -6,7 +6,6 @@ use Rattle.mp_schema.specs.declared.pattern.ParamPat.TheVariants.{Lit, Hole}
 use Rattle.mp_words.specs.declared.word.Word.{Word}
 use Rattle.mp_words.specs.declared.word.Mark.TheVariants as mark
 use Rattle.mp_words.specs.declared.word.Keyword.TheVariants as keyword
-use Rattle.mp_termtext.specs.declared.raw.Binder.{Binder}
 use Rattle.mp_words.specs.declared.raw.RawName.{RawName}
 use Rattle.mp_theorytext.specs.declared.raw.RawParamPat.{RawParamPat}
 use Rattle.mp_theorytext.specs.declared.raw.RawPatternBound.{RawPatternBound}
@@ -132,7 +131,7 @@ args_at : (ts : List Word) → Decides 1 IsPattern StuckPattern ts → ListsBehi
 args_at ts (inl x) rec = behind_one_arg ts x.0 x.1 x.2 x.3 (mark_stands mark.CloseBracket x.1) (mark_stands mark.Semicolon x.1) rec
 args_at ts (inr x) rec = inr (x.0, in_arg ts x.0 x.1)
 
-with_body : (ts : List Word) (bs : List Binder) (us : List Word) → AreBinders bs ts us → 0 + length us ≤ length ts → Decides 1 IsPattern StuckPattern us → Decides 1 IsBound StuckBound ts
+with_body : (ts : List Word) (bs : List RawName) (us : List Word) → AreBinders bs ts us → 0 + length us ≤ length ts → Decides 1 IsPattern StuckPattern us → Decides 1 IsBound StuckBound ts
 with_body ts bs us b s (inl x) = inl (record { binders = bs; body = x.0 }, x.1, bound (record { binders = bs; body = x.0 }) ts x.1 bs x.0 us refl b x.2, omega (arith, s, x.3))
 with_body ts bs us b s (inr x) = inr (x.0, in_body ts x.0 bs us b x.1)
 

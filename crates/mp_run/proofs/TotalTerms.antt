@@ -5,14 +5,14 @@ use Rattle.mp_term.specs.declared.term.Param.TheVariants as param
 use Rattle.mp_words.specs.declared.word.Word.{Word}
 use Rattle.mp_words.specs.declared.word.Word.TheVariants as word
 use Rattle.mp_words.specs.declared.word.Mark.TheVariants as mark
-use Rattle.mp_termtext.specs.declared.raw.Binder.{Binder}
+use Rattle.mp_words.specs.declared.raw.RawName.{RawName}
 use Rattle.mp_termtext.specs.declared.raw.RawParam.{RawParam}
 use Rattle.mp_termtext.specs.declared.raw.RawBound.{RawBound}
 use Rattle.mp_termtext.specs.declared.raw.RawTerm.{RawTerm, Var, Op}
 use Rattle.mp_termtext.specs.declared.raw.RawHyp.{RawHyp}
-use Rattle.mp_words.specs.Parts.{None_of, Lacks, IsMark, IsName, Both, After, StuckAfter, Separated, StuckSeparated}
-use Rattle.mp_termtext.specs.Grammar.{IsVariable, IsParamWord, IsParam, AreParams, StuckParams, IsBinder, begins_binders, AreSomeBinders, AreBinders, StuckBinders, IsTerm, AreSubs, AreBounds, IsBound, StuckTerm, StuckSubs, StuckBounds, StuckBound, variable, operator, no_subs, some_subs, last_bound, more_bounds, bound, no_name, in_params, in_subs, in_braces, in_bound, behind_bound, in_other_bounds, in_binders, in_body, IsHyp, StuckHyp, AreHyps, StuckHyps, IsSequent, StuckSequent}
-use Rattle.mp_run.proofs.Total.{Stands, Found, Decides, Total, by_length, fewer, mark_stands, name_found, lacks_at, total_name}
+use Rattle.mp_words.specs.Parts.{None_of, Lacks, IsMark, IsName, IsNameAt, Both, After, StuckAfter, Separated, StuckSeparated}
+use Rattle.mp_termtext.specs.Grammar.{IsVariable, IsParamWord, IsParam, AreParams, StuckParams, begins_binders, AreSomeBinders, AreBinders, StuckBinders, IsTerm, AreSubs, AreBounds, IsBound, StuckTerm, StuckSubs, StuckBounds, StuckBound, variable, operator, no_subs, some_subs, last_bound, more_bounds, bound, no_name, in_params, in_subs, in_braces, in_bound, behind_bound, in_other_bounds, in_binders, in_body, IsHyp, StuckHyp, AreHyps, StuckHyps, IsSequent, StuckSequent}
+use Rattle.mp_run.proofs.Total.{Stands, Found, Decides, Total, by_length, fewer, mark_stands, name_found, lacks_at, total_name, total_name_at}
 use Rattle.mp_run.proofs.TotalParts.{of_any_length, read_as, both_at, after_at, optional_at, total_separated, total_listed}
 
 -- ## Words
@@ -52,15 +52,11 @@ total_params ts =
     (λ us s. of_any_length (Separated IsParam (IsMark mark.Semicolon) (IsMark mark.CloseBracket)) (StuckSeparated IsParam (Lacks IsParam) (IsMark mark.Semicolon) (IsMark mark.CloseBracket)) us
     (total_separated IsParam (Lacks IsParam) (λ vs. lacks_at IsParam vs (param_placed vs (param_word_found vs))) (IsMark mark.Semicolon) (IsMark mark.CloseBracket) (mark_stands mark.Semicolon) (mark_stands mark.CloseBracket) us))
 
-binder_placed : (ts : List Word) → Found IsName ts → Found IsBinder ts
-binder_placed ts (inl h) = inl (record { name = h.0; left = length ts }, h.1, (h.2, refl), h.3)
-binder_placed ts (inr n) = inr (λ b us h. n b.name us h.0)
-
-some_binders_at : Total 1 AreSomeBinders (StuckSeparated IsBinder (Lacks IsBinder) (IsMark mark.Comma) (IsMark mark.Dot))
+some_binders_at : Total 1 AreSomeBinders (StuckSeparated IsNameAt (Lacks IsNameAt) (IsMark mark.Comma) (IsMark mark.Dot))
 some_binders_at ts =
-    total_separated IsBinder (Lacks IsBinder) (λ vs. lacks_at IsBinder vs (binder_placed vs (name_found vs))) (IsMark mark.Comma) (IsMark mark.Dot) (mark_stands mark.Comma) (mark_stands mark.Dot) ts
+    total_separated IsNameAt (Lacks IsNameAt) total_name_at (IsMark mark.Comma) (IsMark mark.Dot) (mark_stands mark.Comma) (mark_stands mark.Dot) ts
 
-begun_binders : (ts : List Word) → begins_binders ts ≡ true → Decides 1 AreSomeBinders (StuckSeparated IsBinder (Lacks IsBinder) (IsMark mark.Comma) (IsMark mark.Dot)) ts → Decides 0 AreBinders StuckBinders ts
+begun_binders : (ts : List Word) → begins_binders ts ≡ true → Decides 1 AreSomeBinders (StuckSeparated IsNameAt (Lacks IsNameAt) (IsMark mark.Comma) (IsMark mark.Dot)) ts → Decides 0 AreBinders StuckBinders ts
 begun_binders ts b (inl h) = inl (h.0, h.1, inr (b, h.2), omega (arith, h.3))
 begun_binders ts b (inr h) = inr (h.0, (b, h.1))
 
@@ -105,7 +101,7 @@ term_form ts (inr v) rec = named_term ts v (name_found ts) rec
 term_at : (ts : List Word) → BoundsBehind ts → Decides 1 IsTerm StuckTerm ts
 term_at ts rec = term_form ts (variable_found ts) rec
 
-with_body : (ts : List Word) (bs : List Binder) (us : List Word) → AreBinders bs ts us → 0 + length us ≤ length ts → Decides 1 IsTerm StuckTerm us → Decides 1 IsBound StuckBound ts
+with_body : (ts : List Word) (bs : List RawName) (us : List Word) → AreBinders bs ts us → 0 + length us ≤ length ts → Decides 1 IsTerm StuckTerm us → Decides 1 IsBound StuckBound ts
 with_body ts bs us b s (inl t) = inl (record { binders = bs; body = t.0 }, t.1, bound (record { binders = bs; body = t.0 }) ts t.1 us b t.2, omega (arith, s, t.3))
 with_body ts bs us b s (inr t) = inr (t.0, in_body ts t.0 bs us b t.1)
 

@@ -16,7 +16,7 @@ use Rattle.mp_theory.specs.declared.just.Given.{Given}
 use Rattle.mp_theory.specs.declared.just.Just.TheVariants as just
 use Rattle.mp_theory.specs.Allowed.{are_for, is_allowed, is_allowed_at, is_for, same_bool}
 use Rattle.mp_theory.specs.Tables.{IsRule, place_of}
-use Rattle.mp_termtext.specs.declared.raw.Binder.{Binder}
+use Rattle.mp_words.specs.declared.raw.RawName.{RawName}
 use Rattle.mp_words.specs.declared.raw.RawNumber.{RawNumber}
 use Rattle.mp_words.specs.declared.fail.TextWhy.TheVariants as why
 use Rattle.mp_words.specs.Faults.{fault_if}
@@ -102,7 +102,7 @@ module _ (gs : List RawGiven) (needs : List Need) (terms : flat_map term_faults 
       let arity = arity_is need g (need_of needs g.name.name) (ap (λ (n : ℕ). need_of needs (record { 0 = n })) f.0 ∙ own) f.1 in
       let fits = body_fits g (given_term gs need.name g terms e) in
       let depth = fits.depth in
-      let names = length-map g.term.binders (λ (b : Binder). b.name) in
+      let names = length-map g.term.binders (λ (b : RawName). b.name) in
       let body : body_of (given_of gs need.name) ≡ value_of 200 g.term.body (names_of g.term.binders) = ap body_of e in
       let scope : 200 + need.arity ≡ 200 + length (names_of g.term.binders) = omega (arith, arity, names) in
       let named : nat_eq need.name.0 need.name.0 ≡ true = grind (arith, nat_tests) in

@@ -12,7 +12,7 @@ use Rattle.mp_term.specs.declared.term.Bound.{Bound}
 use Rattle.mp_term.specs.Terms.{size_of, depth_of, greatest, in_scope_of, at_scope, all_true}
 use Rattle.mp_term.specs.Limits.{few_binders_of}
 use Rattle.mp_term.proofs.Layers.{size_bound, size-Var, size-Op, size_bound-is, depth_bound, depth-Var, depth-Op, depth_bound-is, scoped_bound, in_scope-Var, in_scope-Op, scoped_bound-is, few_bound, few-Var, few-Op, few_bound-is}
-use Rattle.mp_termtext.specs.declared.raw.Binder.{Binder}
+use Rattle.mp_words.specs.declared.raw.RawName.{RawName}
 use Rattle.mp_termtext.specs.declared.raw.RawParam.{RawParam}
 use Rattle.mp_termtext.specs.declared.raw.RawBound.{RawBound}
 use Rattle.mp_termtext.specs.declared.raw.RawTerm.{RawTerm, Var, Op}
@@ -98,7 +98,7 @@ module _ (free : ℕ) where
     parts = nil_parts (too_many (λ b. b.left) 8 k.binders) (faults_of free k.body inner d) (sym (bound_faults-is free k env d) ∙ h)
 
     pub binders_few : length k.binders ≤ 8
-    binders_few = not_many (λ (b : Binder). b.left) 8 k.binders parts.0
+    binders_few = not_many (λ (b : RawName). b.left) 8 k.binders parts.0
 
     pub body_faultless : faults_of free k.body inner d ≡ []
     body_faultless = parts.1

@@ -4,7 +4,7 @@ use Rattle.std.specs.Prelude.{nat_abs, unwrap_or}
 use Rattle.std.proofs.lemmas.Bool.Decides.{nat_tests}
 use Rattle.std.proofs.lemmas.Option.{slice_get_cases}
 use Rattle.mp_logic.specs.declared.sym.Sym.{Sym}
-use Rattle.mp_termtext.specs.declared.raw.Binder.{Binder}
+use Rattle.mp_words.specs.declared.raw.RawName.{RawName}
 use Rattle.mp_words.specs.declared.raw.RawNumber.{RawNumber}
 use Rattle.mp_termtext.specs.declared.raw.RawParam.{RawParam}
 use Rattle.mp_termtext.specs.declared.raw.RawBound.{RawBound}
@@ -117,7 +117,7 @@ body_faultless free k env now e h =
     let inner : IsFaultless free k.body (env ++ names_of k.binders) = (h.0, both.1, omega (arith, few, len, names, long)) in
     (subst (IsFaultless free k.body) (sym e) inner, few)
   where
-    length_names : (bs : List Binder) → length (names_of bs) ≡ length bs
+    length_names : (bs : List RawName) → length (names_of bs) ≡ length bs
     length_names [] = refl
     length_names (b ∷ bs) = ap (λ n. suc n) (length_names bs)
 

@@ -7,9 +7,9 @@ use Rattle.mp_words.specs.declared.word.Word.{Word}
 use Rattle.mp_words.specs.declared.word.Mark.TheVariants as mark
 use Rattle.mp_termtext.specs.declared.raw.RawBound.{RawBound}
 use Rattle.mp_termtext.specs.declared.raw.RawTerm.{RawTerm, Var, Op}
-use Rattle.mp_words.specs.Parts.{IsMark, IsName, Lacks, Both, After, StuckAfter, Separated, StuckSeparated, Whole, StuckWhole, HasOne, AreApart, OneReading}
-use Rattle.mp_termtext.specs.Grammar.{IsVariable, IsParamWord, IsParam, AreParams, StuckParams, IsBinder, AreSomeBinders, AreBinders, StuckBinders, IsTerm, AreSubs, AreBounds, IsBound, StuckTerm, StuckSubs, StuckBounds, StuckBound, variable, operator, no_subs, some_subs, last_bound, more_bounds, bound, no_name, in_params, in_subs, in_braces, in_bound, behind_bound, in_other_bounds, in_binders, in_body, IsHyp, StuckHyp, AreHyps, StuckHyps, IsSequent, StuckSequent}
-use Rattle.mp_words.proofs.Combine.{one_mark, two_marks, one_lacks, one_name, one_both, one_after, one_optional, one_separated, one_listed, one_whole}
+use Rattle.mp_words.specs.Parts.{IsMark, IsName, IsNameAt, Lacks, Both, After, StuckAfter, Separated, StuckSeparated, Whole, StuckWhole, HasOne, AreApart, OneReading}
+use Rattle.mp_termtext.specs.Grammar.{IsVariable, IsParamWord, IsParam, AreParams, StuckParams, AreSomeBinders, AreBinders, StuckBinders, IsTerm, AreSubs, AreBounds, IsBound, StuckTerm, StuckSubs, StuckBounds, StuckBound, variable, operator, no_subs, some_subs, last_bound, more_bounds, bound, no_name, in_params, in_subs, in_braces, in_bound, behind_bound, in_other_bounds, in_binders, in_body, IsHyp, StuckHyp, AreHyps, StuckHyps, IsSequent, StuckSequent}
+use Rattle.mp_words.proofs.Combine.{one_mark, two_marks, one_lacks, one_name, one_name_at, one_both, one_after, one_optional, one_separated, one_listed, one_whole}
 
 -- a written subterm is its binders and its body
 bound_parts : (k j : RawBound) → k.binders ≡ j.binders → k.body ≡ j.body → k ≡ j
@@ -32,14 +32,8 @@ one_params =
     one_optional (IsMark mark.OpenBracket) (Separated IsParam (IsMark mark.Semicolon) (IsMark mark.CloseBracket)) (StuckSeparated IsParam (Lacks IsParam) (IsMark mark.Semicolon) (IsMark mark.CloseBracket)) (one_mark mark.OpenBracket)
     (one_separated IsParam (Lacks IsParam) (one_lacks IsParam param_has_one) (IsMark mark.Semicolon) (IsMark mark.CloseBracket) (one_mark mark.Semicolon) (one_mark mark.CloseBracket)) []
 
-binder_has_one : HasOne IsBinder
-binder_has_one a b ts r s h k =
-    let e = one_name.value a.name b.name ts r s h.0 k.0 in
-    let place : a.left ≡ b.left = h.1 ∙ sym k.1 in
-    ((λ i. record { name = e.0 i; left = place i }), e.1)
-
-one_some_binders : OneReading AreSomeBinders (StuckSeparated IsBinder (Lacks IsBinder) (IsMark mark.Comma) (IsMark mark.Dot))
-one_some_binders = one_separated IsBinder (Lacks IsBinder) (one_lacks IsBinder binder_has_one) (IsMark mark.Comma) (IsMark mark.Dot) (one_mark mark.Comma) (one_mark mark.Dot)
+one_some_binders : OneReading AreSomeBinders (StuckSeparated IsNameAt (Lacks IsNameAt) (IsMark mark.Comma) (IsMark mark.Dot))
+one_some_binders = one_separated IsNameAt (Lacks IsNameAt) one_name_at (IsMark mark.Comma) (IsMark mark.Dot) (one_mark mark.Comma) (one_mark mark.Dot)
 
 binders_have_one : HasOne AreBinders
 binders_have_one x y ts r s (inl h) (inl k) = (h.1 ∙ sym k.1, h.2 ∙ sym k.2)

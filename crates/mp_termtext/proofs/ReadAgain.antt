@@ -22,7 +22,7 @@ use Rattle.mp_term.proofs.Layers.{depth-Var, size_bound, size_bound-is, size-Op,
 use Rattle.mp_words.specs.declared.word.Word.{Word}
 use Rattle.mp_words.specs.declared.word.Word.TheVariants as word
 use Rattle.mp_words.specs.declared.word.Mark.TheVariants as mark
-use Rattle.mp_termtext.specs.declared.raw.Binder.{Binder}
+use Rattle.mp_words.specs.declared.raw.RawName.{RawName}
 use Rattle.mp_termtext.specs.declared.raw.RawParam.{RawParam}
 use Rattle.mp_termtext.specs.declared.raw.RawBound.{RawBound}
 use Rattle.mp_termtext.specs.declared.raw.RawTerm.{RawTerm, Var, Op}
@@ -106,17 +106,17 @@ module _ (names table : List (List ℕ)) (e : Extends names table) (distinct : A
   length-values (r ∷ rs) = ap (λ n. suc n) (length-values rs)
 
   -- binders are read again
-  binders_again : (n l : ℕ) (rest : List Word) → (bs : List Binder) × AreSomeBinders bs (words (name_piece l ∷ further_binder_pieces (l + 1) n) ++ rest) rest × (names_of bs ≡ names_from table l (suc n)) × (length bs ≡ suc n)
+  binders_again : (n l : ℕ) (rest : List Word) → (bs : List RawName) × AreSomeBinders bs (words (name_piece l ∷ further_binder_pieces (l + 1) n) ++ rest) rest × (names_of bs ≡ names_from table l (suc n)) × (length bs ≡ suc n)
   binders_again zero l rest =
       let us = word.Mark mark.Dot ∷ rest in
       let ts = word.Small (name_at table l) (keyword_of (name_text l)) ∷ us in
-      let b : Binder = record { name = name_at table l; left = length ts } in
+      let b : RawName = record { name = name_at table l; left = length ts } in
       (b ∷ [], last (b ∷ []) ts rest b us refl ((keyword_of (name_text l), refl), refl) refl, refl, refl)
   binders_again (suc n) l rest =
       let vs = words (name_piece (l + 1) ∷ further_binder_pieces (l + 1 + 1) n) ++ rest in
       let us = word.Mark mark.Comma ∷ vs in
       let ts = word.Small (name_at table l) (keyword_of (name_text l)) ∷ us in
-      let b : Binder = record { name = name_at table l; left = length ts } in
+      let b : RawName = record { name = name_at table l; left = length ts } in
       let others = binders_again n (l + 1) rest in
       (b ∷ others.0, more (b ∷ others.0) ts rest b others.0 us vs refl ((keyword_of (name_text l), refl), refl) (λ ws k. cc) refl others.1, ap (λ ns. name_at table l ∷ ns) others.2, ap (λ k. suc k) others.3)
 
@@ -242,7 +242,7 @@ module _ (names table : List (List ℕ)) (e : Extends names table) (distinct : A
           raw = r;
           is = bound r ts rest ts (inl (no_binders t (s + 0) rest mk, refl, refl)) a.is;
           value = bound_value-is free r (env n) ∙ ap (λ (u : Term). record { binders = 0; body = u }) same;
-          faultless = bound_faults-is free r (env n) d ∙ ap (λ fs. fs ++ faults_of free a.raw (env n ++ []) d) (few_enough (λ (b : Binder). b.left) 8 [] (omega arith)) ∙ ap (λ ns. faults_of free a.raw ns d) (append-nil (env n)) ∙ a.faultless;
+          faultless = bound_faults-is free r (env n) d ∙ ap (λ fs. fs ++ faults_of free a.raw (env n ++ []) d) (few_enough (λ (b : RawName). b.left) 8 [] (omega arith)) ∙ ap (λ ns. faults_of free a.raw ns d) (append-nil (env n)) ∙ a.faultless;
           size = raw_size_bound-is r ∙ a.size ∙ sym (size_bound-is k);
         }
     bound_again_at (suc b) t f s n m d is few h lim named held rest c mk =
@@ -263,7 +263,7 @@ module _ (names table : List (List ℕ)) (e : Extends names table) (distinct : A
           raw = r;
           is = subst (λ us. IsBound r us rest) split (bound r ts rest ws (inr (binders_begin b s ws, bs.1)) a.is);
           value = bound_value-is free r (env n) ∙ (λ i. record { binders = bs.3 i; body = same i });
-          faultless = bound_faults-is free r (env n) d ∙ ap (λ fs. fs ++ faults_of free a.raw (env n ++ names_of bs.0) d) (few_enough (λ (b : Binder). b.left) 8 bs.0 (omega (arith, few, count))) ∙ ap (λ ns. faults_of free a.raw ns d) longer ∙ a.faultless;
+          faultless = bound_faults-is free r (env n) d ∙ ap (λ fs. fs ++ faults_of free a.raw (env n ++ names_of bs.0) d) (few_enough (λ (b : RawName). b.left) 8 bs.0 (omega (arith, few, count))) ∙ ap (λ ns. faults_of free a.raw ns d) longer ∙ a.faultless;
           size = raw_size_bound-is r ∙ a.size ∙ sym (size_bound-is k);
         }
 

@@ -9,13 +9,13 @@ use Rattle.mp_term.specs.declared.term.Param.TheVariants as param
 use Rattle.mp_words.specs.declared.word.Word.{Word}
 use Rattle.mp_words.specs.declared.word.Word.TheVariants as word
 use Rattle.mp_words.specs.declared.word.Mark.TheVariants as mark
-use Rattle.mp_termtext.specs.declared.raw.Binder.{Binder}
+use Rattle.mp_words.specs.declared.raw.RawName.{RawName}
 use Rattle.mp_termtext.specs.declared.raw.RawParam.{RawParam}
 use Rattle.mp_termtext.specs.declared.raw.RawBound.{RawBound}
 use Rattle.mp_termtext.specs.declared.raw.RawTerm.{RawTerm, Var, Op}
 use Rattle.mp_termtext.specs.declared.raw.RawHyp.{RawHyp}
 use Rattle.mp_termtext.specs.declared.raw.RawSequent.{RawSequent}
-use Rattle.mp_words.specs.Parts.{No, None_of, Lacks, IsMark, IsName, Both, StuckBoth, After, StuckAfter, Optional, StuckOptional, Separated, StuckSeparated, Listed, StuckListed}
+use Rattle.mp_words.specs.Parts.{No, None_of, Lacks, IsMark, IsName, IsNameAt, Both, StuckBoth, After, StuckAfter, Optional, StuckOptional, Separated, StuckSeparated, Listed, StuckListed}
 
 -- a variable: its name, and its number where its name is `x` and a number
 abbrev pub IsVariable : Sym × Option ℕ → List Word → List Word → Type 0
@@ -38,10 +38,6 @@ AreParams = Optional (IsMark mark.OpenBracket) [] (Separated IsParam (IsMark mar
 abbrev pub StuckParams : List Word → List Word → Type 0
 StuckParams = StuckOptional (IsMark mark.OpenBracket) (StuckSeparated IsParam (Lacks IsParam) (IsMark mark.Semicolon) (IsMark mark.CloseBracket))
 
--- the name of a binder, and its place
-abbrev pub IsBinder : Binder → List Word → List Word → Type 0
-IsBinder b ts rest = IsName b.name ts rest × (b.left ≡ length ts)
-
 -- `,` or `.` stands at the front
 abbrev pub marks_binders : List Word → Bool
 marks_binders (word.Mark mark.Comma ∷ ts) = true
@@ -54,16 +50,16 @@ begins_binders (word.Small n k ∷ ts) = marks_binders ts
 begins_binders other = false
 
 -- name (, name)* .
-abbrev pub AreSomeBinders : List Binder → List Word → List Word → Type 0
-AreSomeBinders = Separated IsBinder (IsMark mark.Comma) (IsMark mark.Dot)
+abbrev pub AreSomeBinders : List RawName → List Word → List Word → Type 0
+AreSomeBinders = Separated IsNameAt (IsMark mark.Comma) (IsMark mark.Dot)
 
 -- binders where they begin, and else none
-abbrev pub AreBinders : List Binder → List Word → List Word → Type 0
+abbrev pub AreBinders : List RawName → List Word → List Word → Type 0
 AreBinders bs ts rest = ((begins_binders ts ≡ false) × (bs ≡ []) × (rest ≡ ts)) ⊎ ((begins_binders ts ≡ true) × AreSomeBinders bs ts rest)
 
 -- where binders are stuck: only where they begin
 abbrev pub StuckBinders : List Word → List Word → Type 0
-StuckBinders ts rest = (begins_binders ts ≡ true) × StuckSeparated IsBinder (Lacks IsBinder) (IsMark mark.Comma) (IsMark mark.Dot) ts rest
+StuckBinders ts rest = (begins_binders ts ≡ true) × StuckSeparated IsNameAt (Lacks IsNameAt) (IsMark mark.Comma) (IsMark mark.Dot) ts rest
 
 mutual
   -- the term stands at the front of the words, and these are left
@@ -105,7 +101,7 @@ mutual
   -- where a subterm is stuck: in its binders or in its body
   pub data StuckBound : List Word → List Word → Type 0 where
     in_binders : (ts rest : List Word) → StuckBinders ts rest → StuckBound ts rest
-    in_body : (ts rest : List Word) (bs : List Binder) (us : List Word) → AreBinders bs ts us → StuckTerm us rest → StuckBound ts rest
+    in_body : (ts rest : List Word) (bs : List RawName) (us : List Word) → AreBinders bs ts us → StuckTerm us rest → StuckBound ts rest
 
 -- name : term
 abbrev pub IsHyp : RawHyp → List Word → List Word → Type 0

@@ -1,7 +1,7 @@
 -- The static rules of terms and sequents as they are written.
 use Rattle.std.specs.Prelude.{ℕ, zero, suc, ◌+◌, ◌++◌, sum, sum_by, List, [], ◌∷◌, map, Option, None, Some, Bool, true, false, nat_lt, nat_eq, if◌then◌else◌}
 use Rattle.mp_logic.specs.declared.sym.Sym.{Sym}
-use Rattle.mp_termtext.specs.declared.raw.Binder.{Binder}
+use Rattle.mp_words.specs.declared.raw.RawName.{RawName}
 use Rattle.mp_termtext.specs.declared.raw.RawBound.{RawBound, RawBound-F, fold-RawBound}
 use Rattle.mp_termtext.specs.declared.raw.RawTerm.{RawTerm, RawTerm-F}
 use Rattle.mp_termtext.specs.declared.raw.RawTerm.TheOpen as layer
@@ -39,7 +39,7 @@ abbrev pub level_of : ℕ → List Sym → Sym → Option ℕ → Option ℕ
 level_of free env name k = level_by free (place_in env name) k
 
 -- the names of binders
-abbrev pub names_of : List Binder → List Sym
+abbrev pub names_of : List RawName → List Sym
 names_of bs = map (λ b. b.name) bs
 
 -- a node at depth over 200

@@ -15,7 +15,7 @@ pub use bytes::{push_bytes, push_decimal};
 pub use laws::{one_reading, one_text, round_trip_law};
 pub use mp_words::{TextErr, TextFail, TextWhy};
 pub use print::{print_sequent, print_term, push_bound_term, push_sequent, push_term};
-pub use raw::{Binder, RawBound, RawHyp, RawParam, RawSequent, RawTerm};
+pub use raw::{RawBound, RawHyp, RawParam, RawSequent, RawTerm};
 pub use reading::{read_sequent, read_term};
 pub use scope::{level_of, push_names};
 pub use statics::{check_bound_term, check_sequent, left_of, term_fault};

@@ -1,12 +1,6 @@
 use mp_logic::{List, Sym};
 use mp_term::Param;
-
-/// A binder as it is written, and how many words are left where it stands, itself among them.
-#[derive(Clone, Copy, Debug, PartialEq, Eq)]
-pub struct Binder {
-    pub name: Sym,
-    pub left: u64,
-}
+use mp_words::RawName;
 
 /// A parameter as it is written, and how many words are left where it stands.
 #[derive(Clone, Copy, Debug, PartialEq, Eq)]
@@ -19,7 +13,7 @@ pub struct RawParam {
 #[cycle(raw)]
 #[derive(Drop)]
 pub struct RawBound {
-    pub binders: List<Binder>,
+    pub binders: List<RawName>,
     pub body: RawTerm,
 }
 

@@ -1,12 +1,7 @@
-ghost use Rattle.mp_words.specs.Parts.{Lacks};
-ghost use Rattle.mp_termtext.specs.Grammar.{IsBinder, begins_binders};
-
-use crate::{Binder, binders_ahead, print_sequent, print_term, read_sequent, read_term};
-use mp_logic::{List, Text};
+use crate::{print_sequent, print_term, read_sequent, read_term};
+use mp_logic::Text;
 use mp_names::Names;
-use mp_words::{
-    Beginning, ReadFail, Reader, TextErr, TextFail, TextWhy, Word, lex_text, many, repeated,
-};
+use mp_words::{TextErr, TextFail, TextWhy};
 use std::alloc::Global;
 use std::test::Fail;
 
@@ -241,56 +236,5 @@ fn sequents_have_at_most_20000_nodes(rt: HostRuntime) -> Result<(), Fail> {
     let at = 1;
     let why = TextWhy::TooBig;
     assert_eq!(rt; fault, Some(TextErr { at, why }));
-    Ok(())
-}
-
-// The words of a text.
-fn words_of(alloc: Global, source: &[u8]) -> Result<List<Word>, Fail> {
-    if source.len() > LONGEST {
-        return Err(Fail::from("too long"));
-    }
-    let mut names = Names::new(alloc);
-    let text = lex_text(alloc, &mut names, source).ok().ok_or("refused")?;
-    Ok(text.words)
-}
-
-// A name before `,` or `.`.
-struct Led;
-
-impl Reader for Led {
-    type Raw = Binder;
-
-    ghost is = { IsBinder };
-
-    ghost stops = { Lacks IsBinder };
-
-    fn read(alloc: Global, words: &[Word]) -> Result<(Binder, &[Word]), ReadFail> {
-        Binder::read(alloc, words)
-    }
-}
-
-impl Beginning for Led {
-    ghost begun = { begins_binders };
-
-    fn begins(words: &[Word]) -> bool {
-        binders_ahead(words)
-    }
-}
-
-#[test]
-fn parts_are_read_again_and_again(rt: HostRuntime) -> Result<(), Fail> {
-    let alloc = rt.alloc();
-    let words = words_of(alloc, b"a b c")?;
-    let binders = many::<Binder>(alloc, words.as_slice()).ok().ok_or("stuck")?;
-    assert_eq!(rt; binders.len(), 3);
-    let words = words_of(alloc, b"a b ;")?;
-    let fail = many::<Binder>(alloc, words.as_slice()).err();
-    assert_eq!(rt; fail, Some(ReadFail::Stuck(1)));
-    let words = words_of(alloc, b"a, b")?;
-    let (binders, rest) = repeated::<Led>(alloc, words.as_slice())
-        .ok()
-        .ok_or("stuck")?;
-    assert_eq!(rt; binders.len(), 1);
-    assert_eq!(rt; rest.len(), 2);
     Ok(())
 }

@@ -1,8 +1,8 @@
 ghost use Rattle.std.specs.Prelude.{◌≡◌, ◌++◌, ◌<◌, ◌^◌, OnOk, IfSome};
 ghost use Rattle.mp_termtext.specs.Statics.{level_of, names_of, place_in};
 
-use crate::Binder;
 use mp_logic::{NoMemory, Sym};
+use mp_words::RawName;
 
 /// The place of the last name of the list that is this one.
 fn place_in(env: &[Sym], name: Sym) -> Option<usize>
@@ -35,7 +35,7 @@ pub fn level_of(free: u32, env: &[Sym], name: Sym, numbered: Option<u32>) -> Opt
 }
 
 /// Appends the names of the binders.
-pub fn push_names(env: &mut Vec<Sym>, binders: &[Binder]) -> Result<(), NoMemory>
+pub fn push_names(env: &mut Vec<Sym>, binders: &[RawName]) -> Result<(), NoMemory>
     ensures { OnOk result (env.new.items ≡ env.old.items ++ names_of binders.now) }
 {
     for binder in binders {

@@ -1,11 +1,11 @@
 ghost use Rattle.std.specs.Prelude.{◌≡◌, ◌+◌, ◌<◌, ◌≤◌, [], length, IfOk, MatchOption};
 ghost use Rattle.mp_words.specs.Parts.{None_of, Lacks, Reads};
-ghost use Rattle.mp_termtext.specs.Grammar.{IsVariable, IsParam, AreParams, StuckParams, IsBinder, begins_binders, AreBinders, StuckBinders, IsTerm, StuckTerm, AreSubs, StuckSubs, AreBounds, StuckBounds, IsBound, StuckBound, IsHyp, StuckHyp, IsSequent, StuckSequent};
+ghost use Rattle.mp_termtext.specs.Grammar.{IsVariable, IsParam, AreParams, StuckParams, begins_binders, AreBinders, StuckBinders, IsTerm, StuckTerm, AreSubs, StuckSubs, AreBounds, StuckBounds, IsBound, StuckBound, IsHyp, StuckHyp, IsSequent, StuckSequent};
 
-use crate::raw::{Binder, RawBound, RawHyp, RawParam, RawSequent, RawTerm};
+use crate::raw::{RawBound, RawHyp, RawParam, RawSequent, RawTerm};
 use mp_logic::{List, Sym};
 use mp_term::Param;
-use mp_words::{Mark, ReadFail, Reader, Word, listed, mark, name, separated, stuck};
+use mp_words::{Mark, RawName, ReadFail, Reader, Word, listed, mark, name, separated, stuck};
 use std::alloc::Global;
 
 /// The variable at the front, by its name and its number, and what is behind it.
@@ -42,23 +42,6 @@ impl Reader for RawParam {
     }
 }
 
-impl Reader for Binder {
-    type Raw = Binder;
-
-    ghost is = { IsBinder };
-
-    ghost stops = { Lacks IsBinder };
-
-    /// Reads a name.
-    fn read(_alloc: Global, words: &[Word]) -> Result<(Binder, &[Word]), ReadFail> {
-        let left = words.len() as u64;
-        match name(words) {
-            Some((name, rest)) => Ok((Binder { name, left }, rest)),
-            None => Err(stuck(words)),
-        }
-    }
-}
-
 /// Reads parameters between brackets; there are none where no bracket opens.
 pub fn parse_params(alloc: Global, words: &[Word]) -> Result<(List<RawParam>, &[Word]), ReadFail>
     ensures reads { Reads (λ x. (x.0, x.1.now)) AreParams StuckParams words.now result }
@@ -84,12 +67,12 @@ pub fn binders_ahead(words: &[Word]) -> bool
 }
 
 /// Reads binders and the dot behind them; there are none where no binders begin.
-pub fn parse_binders(alloc: Global, words: &[Word]) -> Result<(List<Binder>, &[Word]), ReadFail>
+pub fn parse_binders(alloc: Global, words: &[Word]) -> Result<(List<RawName>, &[Word]), ReadFail>
     ensures reads { Reads (λ x. (x.0, x.1.now)) AreBinders StuckBinders words.now result }
     ensures within { IfOk result (λ x. length x.1.now ≤ length words.now) }
 {
     if binders_ahead(words) {
-        separated::<Binder>(alloc, words, Mark::Comma, Mark::Dot)
+        separated::<RawName>(alloc, words, Mark::Comma, Mark::Dot)
     } else {
         Ok((List::new(alloc), words))
     }

@@ -15,7 +15,6 @@ use Rattle.mp_schema.specs.Instances.{all_pass}
 use Rattle.mp_schema.specs.Conditions.{below, below_bound}
 use Rattle.mp_schema.specs.Limits.{few_of, few_of_bound, pattern_depth_of, pattern_depth_of_bound}
 use Rattle.mp_schema.proofs.Layers.{below-Var, below-Op, below-Meta, below_bound-is, few_of-Var, few_of-Op, few_of-Meta, few_of_bound-is, pattern_depth_of-Var, pattern_depth_of-Op, pattern_depth_of-Meta, pattern_depth_of_bound-is}
-use Rattle.mp_termtext.specs.declared.raw.Binder.{Binder}
 use Rattle.mp_words.specs.declared.fault.Fault.{Fault}
 use Rattle.mp_words.specs.Faults.{too_many}
 use Rattle.mp_termtext.specs.Statics.{deep, each_faults, level_by, names_of, place_in, unless_bound}
@@ -87,7 +86,7 @@ pub record FitBodies (bs : List PBound) (d n : ℕ) : Type 0 where
   pub depth : greatest (map pattern_depth_of_bound bs) + d ≤ 201
   pub range : at_scope n (map below_bound bs) ≡ true
 
-few_binders : (env : List Sym) (bs : List Binder) → length bs ≤ 8 → length env + in_32_bits (length bs) ≡ length (env ++ names_of bs)
+few_binders : (env : List Sym) (bs : List RawName) → length bs ≤ 8 → length env + in_32_bits (length bs) ≡ length (env ++ names_of bs)
 few_binders env bs h =
     let a = length-append env (names_of bs) in let m = length-map bs (λ b. b.name) in omega (arith, a, m, h)
 
@@ -99,7 +98,7 @@ module _ (k : RawPatternBound) (env : List Sym) (d : ℕ) (h : bound_node_faults
   parts = nil_parts (too_many (λ c. c.left) 8 k.binders) (node_faults k.body inner d) (sym (bound_node_faults-is k env d) ∙ h)
 
   pub binders_few : length k.binders ≤ 8
-  binders_few = not_many (λ (c : Binder). c.left) 8 k.binders parts.0
+  binders_few = not_many (λ (c : RawName). c.left) 8 k.binders parts.0
 
   pub body_faultless : node_faults k.body inner d ≡ []
   body_faultless = parts.1

@@ -10,7 +10,6 @@ use Rattle.mp_schema.specs.declared.pattern.ParamPat.TheVariants.{Lit, Hole}
 use Rattle.mp_words.specs.declared.word.Word.{Word}
 use Rattle.mp_words.specs.declared.word.Mark.TheVariants as mark
 use Rattle.mp_words.specs.declared.word.Keyword.TheVariants as keyword
-use Rattle.mp_termtext.specs.declared.raw.Binder.{Binder}
 use Rattle.mp_words.specs.declared.raw.RawName.{RawName}
 use Rattle.mp_theorytext.specs.declared.raw.RawParamPat.{RawParamPat}
 use Rattle.mp_theorytext.specs.declared.raw.RawPatternBound.{RawPatternBound}
@@ -77,7 +76,7 @@ mutual
 
   -- binders where they begin, and a pattern
   pub data IsBound : RawPatternBound → List Word → List Word → Type 0 where
-    bound : (k : RawPatternBound) (ts rest : List Word) (bs : List Binder) (x : RawPattern) (us : List Word) → k ≡ record { binders = bs; body = x } → AreBinders bs ts us → IsPattern x us rest → IsBound k ts rest
+    bound : (k : RawPatternBound) (ts rest : List Word) (bs : List RawName) (x : RawPattern) (us : List Word) → k ≡ record { binders = bs; body = x } → AreBinders bs ts us → IsPattern x us rest → IsBound k ts rest
 
 mutual
   -- a reading of a pattern ends at the first of these words
@@ -106,7 +105,7 @@ mutual
 
   pub data StuckBound : List Word → List Word → Type 0 where
     in_binders : (ts rest : List Word) → StuckBinders ts rest → StuckBound ts rest
-    in_body : (ts rest : List Word) (bs : List Binder) (us : List Word) → AreBinders bs ts us → StuckPattern us rest → StuckBound ts rest
+    in_body : (ts rest : List Word) (bs : List RawName) (us : List Word) → AreBinders bs ts us → StuckPattern us rest → StuckBound ts rest
 
 -- Cap ctxs? args? >
 abbrev pub IsContext : RawName × (List RawName × List RawPattern) → List Word → List Word → Type 0

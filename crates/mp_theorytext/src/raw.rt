@@ -1,6 +1,5 @@
 use mp_logic::{List, Sym};
 use mp_schema::ParamPat;
-use mp_termtext::Binder;
 use mp_words::RawName;
 
 /// A parameter of a pattern as it is written, and how many words are left where it begins. The name of a hole is
@@ -15,7 +14,7 @@ pub struct RawParamPat {
 #[cycle(raw)]
 #[derive(Drop)]
 pub struct RawPatternBound {
-    pub binders: List<Binder>,
+    pub binders: List<RawName>,
     pub body: RawPattern,
 }
 

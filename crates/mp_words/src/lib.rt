@@ -25,4 +25,6 @@ pub use raw::{RawName, RawNumber};
 pub use word::{Keyword, Mark, Word};
 
 #[cfg(test)]
+mod list_tests;
+#[cfg(test)]
 mod tests;

@@ -1,9 +1,9 @@
 ghost use Rattle.std.specs.Prelude.{◌≡◌, ◌+◌, ◌<◌, ◌≤◌, [], List, Bool, length, IfOk};
-ghost use Rattle.mp_words.specs.Parts.{Reads, IsMark, Separated, StuckSeparated, Listed, StuckListed, Many, StuckMany, Repeated, StuckRepeated, Whole, StuckWhole};
+ghost use Rattle.mp_words.specs.Parts.{Reads, IsMark, IsNameAt, Lacks, Separated, StuckSeparated, Listed, StuckListed, Many, StuckMany, Repeated, StuckRepeated, Whole, StuckWhole};
 ghost use Rattle.mp_words.specs.declared.word.Word.{Word};
 
-use crate::parts::{ReadFail, mark, stuck};
-use crate::{Mark, Word};
+use crate::parts::{ReadFail, mark, name_at, stuck};
+use crate::{Mark, RawName, Word};
 use mp_logic::List;
 use std::alloc::Global;
 
@@ -22,6 +22,22 @@ pub trait Reader {
     fn read(alloc: Global, words: &[Word]) -> Result<(Self::Raw, &[Word]), ReadFail>
         ensures reads { Reads (λ x. (x.0, x.1.now)) is stops words.now result }
         ensures shorter { IfOk result (λ x. length x.1.now < length words.now) };
+}
+
+impl Reader for RawName {
+    type Raw = RawName;
+
+    ghost is = { IsNameAt };
+
+    ghost stops = { Lacks IsNameAt };
+
+    /// Reads a name that begins with a small letter.
+    fn read(_alloc: Global, words: &[Word]) -> Result<(RawName, &[Word]), ReadFail> {
+        match name_at(words) {
+            Some(read) => Ok(read),
+            None => Err(stuck(words)),
+        }
+    }
 }
 
 /// Reads the part once or more with the separator between, and then the end.

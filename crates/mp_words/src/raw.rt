@@ -1,6 +1,6 @@
 use mp_logic::Sym;
 
-/// A name that isn't a binder as it is written, and how many words are left where it stands, itself among them.
+/// A name as it is written, and how many words are left where it stands, itself among them.
 #[derive(Clone, Copy, Debug, PartialEq, Eq)]
 pub struct RawName {
     pub name: Sym,
