@@ -8,9 +8,9 @@ use Rattle.mp_words.specs.declared.fault.Fault.{Fault}
 use Rattle.mp_words.specs.declared.fail.TextWhy.TheVariants as why
 use Rattle.mp_words.specs.declared.raw.RawName.{RawName}
 use Rattle.mp_words.specs.Faults.{fault_if, is_sooner, least_from, rank_of, sooner}
-use Rattle.mp_termtext.proofs.FaultSteps.{three_parts}
-use Rattle.mp_termtext.proofs.MetWalks.{names_next}
-use Rattle.mp_termtext.proofs.Walks.{left_cons}
+use Rattle.mp_words.proofs.FaultParts.{three_parts}
+use Rattle.mp_words.proofs.MetWalks.{names_next}
+use Rattle.mp_words.proofs.Walks.{left_cons}
 use Rattle.mp_drill.specs.declared.raw.RawSection.{RawSection}
 use Rattle.mp_drill.specs.ScheduleStatics.{events_faults, name_faults, sections_faults}
 

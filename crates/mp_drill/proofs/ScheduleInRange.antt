@@ -6,7 +6,7 @@ use Rattle.std.proofs.lemmas.Bool.{and_parts, and_from}
 use Rattle.mp_logic.specs.declared.sym.Sym.{Sym}
 use Rattle.mp_words.specs.declared.raw.RawNumber.{RawNumber}
 use Rattle.mp_words.specs.Ranges.{number_faults}
-use Rattle.mp_termtext.proofs.Faultless.{nil_parts, number_between}
+use Rattle.mp_words.proofs.NoFaults.{nil_parts, number_between}
 use Rattle.mp_drill.specs.declared.raw.RawEvent.{RawEvent}
 use Rattle.mp_drill.specs.declared.raw.RawEvent.TheVariants as event
 use Rattle.mp_drill.specs.declared.raw.RawSection.{RawSection}

@@ -24,7 +24,7 @@ use Rattle.mp_words.specs.Ranges.{written_number_faults}
 use Rattle.mp_termtext.specs.Statics.{bound_faults_of, names_of, raw_size_of}
 use Rattle.mp_termtext.specs.Values.{IsFaultlessBound, bound_value_of, value_of}
 use Rattle.mp_termtext.proofs.RawLayers.{bound_value-is}
-use Rattle.mp_termtext.proofs.Faultless.{nil_parts, no_fault}
+use Rattle.mp_words.proofs.NoFaults.{nil_parts, no_fault}
 use Rattle.mp_scripttext.specs.declared.raw.RawGiven.{RawGiven}
 use Rattle.mp_scripttext.specs.declared.raw.RawStep.{RawStep}
 use Rattle.mp_scripttext.specs.Statics.{all_given_faults, given_faults, given_of, missing_faults, need_faults, need_of, place_faults, rule_at, rule_faults, rule_named, step_faults, term_faults}

@@ -10,7 +10,7 @@ use Rattle.mp_words.specs.declared.fault.Fault.{Fault}
 use Rattle.mp_words.specs.declared.fail.TextWhy.{TextWhy}
 use Rattle.mp_words.specs.declared.fail.TextWhy.TheVariants as why
 use Rattle.mp_words.specs.Faults.{fault, fault_if, is_behind, is_sooner, least_from, rank_of, sooner}
-use Rattle.mp_termtext.proofs.FaultSteps.{three_parts}
+use Rattle.mp_words.proofs.FaultParts.{three_parts}
 use Rattle.mp_words.proofs.Soonest.{least_from_append}
 use Rattle.mp_scripttext.specs.declared.raw.RawGiven.{RawGiven}
 use Rattle.mp_scripttext.specs.declared.raw.RawStep.{RawStep}

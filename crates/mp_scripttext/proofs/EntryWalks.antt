@@ -9,9 +9,9 @@ use Rattle.mp_words.specs.declared.fail.TextWhy.TheVariants as why
 use Rattle.mp_words.specs.Faults.{fault_if, least_from}
 use Rattle.mp_words.specs.Ranges.{written_number_faults}
 use Rattle.mp_termtext.specs.Statics.{sequent_faults}
-use Rattle.mp_termtext.proofs.FaultSteps.{two_parts, three_parts}
-use Rattle.mp_termtext.proofs.MetWalks.{names_next}
-use Rattle.mp_termtext.proofs.Walks.{left_cons}
+use Rattle.mp_words.proofs.FaultParts.{two_parts, three_parts}
+use Rattle.mp_words.proofs.MetWalks.{names_next}
+use Rattle.mp_words.proofs.Walks.{left_cons}
 use Rattle.mp_scripttext.specs.declared.raw.RawEntry.{RawEntry}
 use Rattle.mp_scripttext.specs.Statics.{entries_faults, entry_faults, step_faults, strategy_faults}
 use Rattle.mp_scripttext.specs.Strategies.{whole_of}

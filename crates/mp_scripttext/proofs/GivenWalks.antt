@@ -6,9 +6,9 @@ use Rattle.mp_theory.specs.declared.rule.Need.{Need}
 use Rattle.mp_words.specs.declared.fault.Fault.{Fault}
 use Rattle.mp_words.specs.declared.fail.TextWhy.TheVariants as why
 use Rattle.mp_words.specs.Faults.{fault_if, least_from}
-use Rattle.mp_termtext.proofs.FaultSteps.{three_parts}
-use Rattle.mp_termtext.proofs.MetWalks.{names_next}
-use Rattle.mp_termtext.proofs.Walks.{left_cons}
+use Rattle.mp_words.proofs.FaultParts.{three_parts}
+use Rattle.mp_words.proofs.MetWalks.{names_next}
+use Rattle.mp_words.proofs.Walks.{left_cons}
 use Rattle.mp_scripttext.specs.declared.raw.RawGiven.{RawGiven}
 use Rattle.mp_scripttext.specs.Statics.{all_given_faults, need_faults, need_of}
 

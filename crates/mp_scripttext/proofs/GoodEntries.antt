@@ -11,7 +11,7 @@ use Rattle.mp_words.specs.declared.fail.TextWhy.TheVariants as why
 use Rattle.mp_words.specs.Faults.{fault_if}
 use Rattle.mp_words.specs.Ranges.{written_number_faults}
 use Rattle.mp_termtext.specs.Statics.{sequent_faults}
-use Rattle.mp_termtext.proofs.Faultless.{nil_parts, no_fault}
+use Rattle.mp_words.proofs.NoFaults.{nil_parts, no_fault}
 use Rattle.mp_scripttext.specs.declared.raw.RawEntry.{RawEntry}
 use Rattle.mp_scripttext.specs.declared.script.Entry.{Entry}
 use Rattle.mp_scripttext.specs.Entries.{EachGood, IsGoodEntry}

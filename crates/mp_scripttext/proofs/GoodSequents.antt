@@ -16,7 +16,8 @@ use Rattle.mp_words.specs.declared.fail.TextWhy.TheVariants as why
 use Rattle.mp_words.specs.Faults.{fault_if, too_many}
 use Rattle.mp_termtext.specs.Statics.{faults_of, hyp_names, hyps_faults, raw_sequent_size_of, raw_size_of, sequent_faults}
 use Rattle.mp_termtext.specs.Values.{hyps_value, sequent_value, value_of}
-use Rattle.mp_termtext.proofs.Faultless.{nil_parts, no_fault, sequent_faultless, length-hyp_names}
+use Rattle.mp_words.proofs.NoFaults.{nil_parts, no_fault}
+use Rattle.mp_termtext.proofs.Faultless.{sequent_faultless, length-hyp_names}
 use Rattle.mp_scripttext.proofs.GoodTerms.{Fits, term_fits}
 
 no_more : (m n : ℕ) → nat_lt n m ≡ false → m ≤ n

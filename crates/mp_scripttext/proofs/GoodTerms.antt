@@ -19,7 +19,8 @@ use Rattle.mp_termtext.specs.declared.raw.RawTerm.{RawTerm, Var, Op}
 use Rattle.mp_words.specs.Faults.{too_many}
 use Rattle.mp_termtext.specs.Statics.{bound_faults_of, deep, each_faults, faults_of, free_level, level_by, level_of, names_of, place_in, raw_size_of, unless_bound}
 use Rattle.mp_termtext.specs.Values.{bound_value_of, each_value, value_of}
-use Rattle.mp_termtext.proofs.Faultless.{nil_parts, not_deep, not_many, place_below}
+use Rattle.mp_words.proofs.NoFaults.{nil_parts, not_many}
+use Rattle.mp_termtext.proofs.Faultless.{not_deep, place_below}
 use Rattle.mp_termtext.proofs.RawLayers.{faults-Var, faults-Op, bound_faults-is, value-Var, value-Op, bound_value-is, raw_size_bound, raw_size-Var, raw_size-Op, raw_size_bound-is}
 use Rattle.mp_scripttext.proofs.RawTermInduction.{OfEachBody, each_raw_term}
 

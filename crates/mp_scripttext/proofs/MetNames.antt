@@ -14,7 +14,7 @@ use Rattle.mp_names.proofs.Places.{found_at}
 use Rattle.mp_theory.specs.declared.rule.Need.{Need}
 use Rattle.mp_words.specs.declared.fail.TextWhy.TheVariants as why
 use Rattle.mp_words.specs.Faults.{fault_if}
-use Rattle.mp_termtext.proofs.Faultless.{nil_parts, no_fault}
+use Rattle.mp_words.proofs.NoFaults.{nil_parts, no_fault}
 use Rattle.mp_scripttext.specs.declared.raw.RawGiven.{RawGiven}
 use Rattle.mp_scripttext.specs.Names.{all_met, AreNew, given_numbers, need_numbers}
 use Rattle.mp_scripttext.specs.Statics.{all_given_faults, given_faults, given_of, need_faults, need_of}

@@ -1,7 +1,7 @@
 -- The nodes and the depth of strategies with `then` between each two, from left to right.
 use Rattle.std.proofs.Common.{◌≡◌, ◌+◌, ◌<◌, ℕ, List, [], ◌∷◌, max, map, refl, ap, sym, ◌∙◌, drop, length, get_or, arith}
 use Rattle.mp_logic.specs.Trees.{counted}
-use Rattle.mp_termtext.proofs.Walks.{left_cons}
+use Rattle.mp_words.proofs.Walks.{left_cons}
 use Rattle.mp_scripttext.specs.declared.raw.RawStrategy.{RawStrategy}
 use Rattle.mp_scripttext.specs.Strategies.{Strategy, strategy_of, then_all, then_of, whole_of}
 

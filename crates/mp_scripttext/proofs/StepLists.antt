@@ -3,7 +3,7 @@ use Rattle.std.proofs.Common.{◌≡◌, ℕ, zero, suc, ◌<◌, ◌++◌, List
 use Rattle.std.specs.List.{flat_map}
 use Rattle.std.proofs.lemmas.Grind.{flat_map-append}
 use Rattle.mp_words.specs.declared.fault.Fault.{Fault}
-use Rattle.mp_termtext.proofs.Faultless.{nil_parts}
+use Rattle.mp_words.proofs.NoFaults.{nil_parts}
 use Rattle.mp_scripttext.specs.declared.raw.RawStep.{RawStep}
 use Rattle.mp_scripttext.specs.declared.raw.RawStrategy.{RawStrategy}
 use Rattle.mp_scripttext.specs.Strategies.{Strategy, strategy_of, then_all, then_of, whole_of}

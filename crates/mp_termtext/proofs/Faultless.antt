@@ -1,53 +1,21 @@
 -- What follows where no static rule is broken: few binders, small levels, and the same for the parts.
 use Rattle.std.proofs.Common.{◌≡◌, ◌++◌, ◌+◌, ◌<◌, ◌≤◌, ◌^◌, ℕ, ℤ, pos, negsuc, zero, suc, List, [], ◌∷◌, Option, None, Some, Bool, true, false, not, ◌&&◌, nat_le, nat_lt, nat_eq, if◌then◌else◌, length, length-append, map, drop, get_or, slice_get, refl, ap, sym, subst, ◌∙◌, inl, inr, arith}
-use Rattle.std.specs.Prelude.{nat_abs, unwrap_or}
+use Rattle.std.specs.Prelude.{unwrap_or}
 use Rattle.std.proofs.lemmas.Bool.Decides.{nat_tests}
-use Rattle.std.proofs.lemmas.Option.{slice_get_cases}
 use Rattle.mp_logic.specs.declared.sym.Sym.{Sym}
 use Rattle.mp_words.specs.declared.raw.RawName.{RawName}
-use Rattle.mp_words.specs.declared.raw.RawNumber.{RawNumber}
 use Rattle.mp_termtext.specs.declared.raw.RawParam.{RawParam}
 use Rattle.mp_termtext.specs.declared.raw.RawBound.{RawBound}
 use Rattle.mp_termtext.specs.declared.raw.RawTerm.{RawTerm, Var, Op}
 use Rattle.mp_termtext.specs.declared.raw.RawHyp.{RawHyp}
 use Rattle.mp_termtext.specs.declared.raw.RawSequent.{RawSequent}
-use Rattle.mp_words.specs.declared.fail.TextWhy.{TextWhy}
 use Rattle.mp_words.specs.declared.fail.TextWhy.TheVariants as why
-use Rattle.mp_words.specs.Faults.{fault_if, fault_at_any, too_many}
-use Rattle.mp_words.specs.Ranges.{is_between, number_faults}
+use Rattle.mp_words.specs.Faults.{fault_if, too_many}
 use Rattle.mp_termtext.specs.Statics.{bound_faults_of, deep, each_faults, faults_of, free_level, hyp_names, hyps_faults, left_of, level_by, level_of, names_of, or_here, place_in, raw_sequent_size_of, raw_size_of, sequent_faults, term_faults, unless_bound}
 use Rattle.mp_termtext.specs.Values.{AreFaultless, IsFaultless, IsFaultlessBound}
-use Rattle.mp_termtext.proofs.Walks.{left_cons}
+use Rattle.mp_words.proofs.NoFaults.{nil_parts, no_fault, not_many}
+use Rattle.mp_words.proofs.Walks.{left_cons}
 use Rattle.mp_termtext.proofs.RawLayers.{faults-Var, faults-Op, bound_faults-is}
-
--- two lists that are none together are none
-pub nil_parts : {A : Type 0} (xs ys : List A) → xs ++ ys ≡ [] → (xs ≡ []) × (ys ≡ [])
-nil_parts [] ys h = (refl, h)
-nil_parts (x ∷ xs) ys h = absurd cc
-
--- a test whose fault isn't there failed
-pub no_fault : (b : Bool) (l : ℕ) (w : TextWhy) → fault_if b l w ≡ [] → b ≡ false
-no_fault true l w h = absurd cc
-no_fault false l w h = refl
-
--- a number without a fault is in its range
-pub number_between : (least most : ℕ) (n : RawNumber) → number_faults least most n ≡ [] → (nat_le least (nat_abs n.value) && nat_le (nat_abs n.value) most) ≡ true
-number_between least most n h = absolute n.value (by (is_between least most n.value) (no_fault (not (is_between least most n.value)) n.left why.BadNumber h))
-  where
-    by : (b : Bool) → not b ≡ false → b ≡ true
-    by true e = refl
-    by false e = absurd cc
-
-    absolute : (v : ℤ) → is_between least most v ≡ true → (nat_le least (nat_abs v) && nat_le (nat_abs v) most) ≡ true
-    absolute (pos v) e = e
-    absolute (negsuc v) e = absurd cc
-
-none_at_any : {X : Type 0} (place : X → ℕ) (w : TextWhy) (o : Option X) → fault_at_any place w o ≡ [] → o ≡ None
-none_at_any place w None h = refl
-none_at_any place w (Some x) h = absurd cc
-
-pub not_many : {X : Type 0} (place : X → ℕ) (n : ℕ) (xs : List X) → too_many place n xs ≡ [] → length xs ≤ n
-not_many place n xs h = elim (slice_get_cases xs n).1 as (λ c. length xs ≤ n) [ inl e ↦ absurd (let q : None ≡ Some e.0 = sym (none_at_any place why.TooMany (slice_get xs n) h) ∙ e.2 in cc) | inr e ↦ e.0 ]
 
 pub not_deep : (d l : ℕ) → deep d l ≡ [] → d ≤ 200
 not_deep d l h = let e = no_fault (nat_lt 200 d) l why.TooDeep h in grind (arith, nat_tests, e)

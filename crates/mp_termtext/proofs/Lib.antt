@@ -2,7 +2,6 @@ pub mod FaultSteps
 pub mod Faultless
 pub mod LevelNames
 pub mod LexedAgain
-pub mod MetWalks
 pub mod NumberTexts
 pub mod OneTerm
 pub mod Printable
@@ -15,4 +14,3 @@ pub mod Scopes
 pub mod StringTexts
 pub mod Unbound
 pub mod ValueSteps
-pub mod Walks

@@ -6,7 +6,7 @@ use Rattle.mp_term.specs.declared.term.Term.{Term}
 use Rattle.mp_termtext.specs.declared.raw.RawBound.{RawBound}
 use Rattle.mp_termtext.specs.declared.raw.RawHyp.{RawHyp}
 use Rattle.mp_termtext.specs.Values.{bound_value_of, each_value, hyps_value, value_of}
-use Rattle.mp_termtext.proofs.Walks.{left_cons}
+use Rattle.mp_words.proofs.Walks.{left_cons}
 
 -- one subterm further
 pub values_next : (free : ℕ) (ks : List RawBound) (i : ℕ) (k : RawBound) (b : Bound) (before after whole : List Bound) (env now : List Sym) → i < length ks → k ≡ get_or ks i k → now ≡ env → b ≡ bound_value_of free k now → after ≡ before ++ b ∷ []

@@ -15,7 +15,7 @@ use Rattle.mp_schema.proofs.Layers.{level_of-Var, occurrences_in-Var, occurrence
 use Rattle.mp_words.specs.declared.fail.TextWhy.TheVariants as why
 use Rattle.mp_words.specs.Faults.{fault_if}
 use Rattle.mp_termtext.specs.Statics.{each_faults, level_by, names_of, or_here, place_in}
-use Rattle.mp_termtext.proofs.Faultless.{nil_parts, no_fault}
+use Rattle.mp_words.proofs.NoFaults.{nil_parts, no_fault}
 use Rattle.mp_words.specs.declared.raw.RawName.{RawName}
 use Rattle.mp_theorytext.specs.declared.raw.RawParamPat.{RawParamPat}
 use Rattle.mp_theorytext.specs.declared.raw.RawPatternBound.{RawPatternBound}

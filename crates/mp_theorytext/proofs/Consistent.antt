@@ -12,7 +12,7 @@ use Rattle.mp_schema.specs.Occurrences.{Occurrence, first_named}
 use Rattle.mp_words.specs.declared.fault.Fault.{Fault}
 use Rattle.mp_words.specs.declared.fail.TextWhy.TheVariants as why
 use Rattle.mp_words.specs.Faults.{too_many}
-use Rattle.mp_termtext.proofs.Faultless.{nil_parts, no_fault, not_many}
+use Rattle.mp_words.proofs.NoFaults.{nil_parts, no_fault, not_many}
 use Rattle.mp_words.specs.declared.raw.RawName.{RawName}
 use Rattle.mp_theorytext.specs.declared.uses.First.{First}
 use Rattle.mp_theorytext.specs.Uses.{Argument, Use, list_faults, argument_faults, find_first, first_of, firsts_with, is_like, unless_like, use_faults, uses_faults}

@@ -6,8 +6,8 @@ use Rattle.mp_words.specs.declared.fault.Fault.{Fault}
 use Rattle.mp_words.specs.declared.fail.TextWhy.TheVariants as why
 use Rattle.mp_words.specs.Faults.{least_from, too_many, fault_if}
 use Rattle.mp_words.proofs.Soonest.{least_from_append}
-use Rattle.mp_termtext.proofs.FaultSteps.{two_parts, three_parts, four_parts}
-use Rattle.mp_termtext.proofs.Walks.{left_cons}
+use Rattle.mp_words.proofs.FaultParts.{two_parts, three_parts, four_parts}
+use Rattle.mp_words.proofs.Walks.{left_cons}
 use Rattle.mp_theorytext.specs.declared.raw.RawItem.{RawItem}
 use Rattle.mp_theorytext.specs.declared.raw.RawSchema.{RawSchema}
 use Rattle.mp_schema.specs.Conditions.{has}

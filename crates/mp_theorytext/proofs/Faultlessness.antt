@@ -13,7 +13,7 @@ use Rattle.mp_schema.specs.Occurrences.{occurrences_in_schema}
 use Rattle.mp_words.specs.declared.fail.TextWhy.TheVariants as why
 use Rattle.mp_words.specs.declared.fault.Fault.{Fault}
 use Rattle.mp_words.specs.Faults.{fault_if, too_many}
-use Rattle.mp_termtext.proofs.Faultless.{nil_parts, no_fault, not_many}
+use Rattle.mp_words.proofs.NoFaults.{nil_parts, no_fault, not_many}
 use Rattle.mp_words.specs.declared.raw.RawName.{RawName}
 use Rattle.mp_theorytext.specs.declared.raw.RawSchema.{RawSchema}
 use Rattle.mp_theorytext.specs.declared.raw.RawRule.{RawRule}

@@ -15,7 +15,7 @@ use Rattle.mp_theorytext.specs.declared.raw.RawPatternBound.{RawPatternBound}
 use Rattle.mp_theorytext.specs.declared.raw.RawPattern.{RawPattern, the_lemmas}
 use Rattle.mp_theorytext.specs.declared.raw.RawPattern as raw
 use Rattle.mp_theorytext.specs.Uses.{hole_faults, holes_in_param, raw_holes, raw_bound_holes}
-use Rattle.mp_termtext.proofs.FaultSteps.{two_parts}
+use Rattle.mp_words.proofs.FaultParts.{two_parts}
 use Rattle.mp_theorytext.proofs.FaultWalks.{among_has}
 
 pub raw_holes-Var : (n : Sym) (l : ℕ) → raw_holes (raw.Var n l) ≡ []

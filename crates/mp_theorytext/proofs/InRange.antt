@@ -18,7 +18,8 @@ use Rattle.mp_schema.proofs.Layers.{below-Var, below-Op, below-Meta, below_bound
 use Rattle.mp_words.specs.declared.fault.Fault.{Fault}
 use Rattle.mp_words.specs.Faults.{too_many}
 use Rattle.mp_termtext.specs.Statics.{deep, each_faults, level_by, names_of, place_in, unless_bound}
-use Rattle.mp_termtext.proofs.Faultless.{nil_parts, not_deep, not_many, place_below}
+use Rattle.mp_words.proofs.NoFaults.{nil_parts, not_many}
+use Rattle.mp_termtext.proofs.Faultless.{not_deep, place_below}
 use Rattle.mp_words.specs.declared.raw.RawName.{RawName}
 use Rattle.mp_theorytext.specs.declared.raw.RawParamPat.{RawParamPat}
 use Rattle.mp_theorytext.specs.declared.raw.RawPatternBound.{RawPatternBound}

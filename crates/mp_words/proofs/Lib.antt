@@ -1,7 +1,11 @@
 pub mod Answering
 pub mod Combine
+pub mod FaultParts
 pub mod Later
 pub mod Loops
+pub mod MetWalks
+pub mod NoFaults
 pub mod Soonest
 pub mod Steps
 pub mod TableFacts
+pub mod Walks

@@ -1,8 +1,8 @@
 -- The least fault is the least.
-use Rattle.std.proofs.Common.{◌≡◌, ◌⊎◌, ◌++◌, inl, inr, ℕ, List, [], ◌∷◌, Option, None, Some, Bool, true, false, nat_lt, nat_eq, ◌&&◌, ◌||◌, refl, sym, subst, true≢false, arith}
+use Rattle.std.proofs.Common.{◌≡◌, ◌⊎◌, ◌++◌, inl, inr, ℕ, List, [], ◌∷◌, Option, Some, Bool, true, false, nat_lt, nat_eq, ◌&&◌, ◌||◌, refl, sym, subst, arith}
 use Rattle.std.proofs.lemmas.Bool.Decides.{nat_tests}
 use Rattle.mp_words.specs.declared.fault.Fault.{Fault}
-use Rattle.mp_words.specs.Faults.{least_from, is_behind, is_sooner, rank_of, sooner, NoneSooner, IsOneOf, IsLeastOf, LeastIsLeast}
+use Rattle.mp_words.specs.Faults.{least_from, is_sooner, rank_of, sooner, NoneSooner, IsOneOf, IsLeastOf, LeastIsLeast}
 
 abbrev first : ℕ → ℕ → ℕ → ℕ → Bool
 first a r b q = nat_lt b a || (nat_eq a b && nat_lt r q)

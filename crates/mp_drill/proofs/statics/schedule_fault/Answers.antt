@@ -1,6 +1,6 @@
 use Rattle.std.proofs.Common.{[], ap, take, ◌∙◌}
 use Rattle.mp_words.specs.Faults.{least_from}
-use Rattle.mp_termtext.proofs.MetWalks.{met_next}
+use Rattle.mp_words.proofs.MetWalks.{met_next}
 use Rattle.mp_drill.specs.declared.raw.RawSection.{RawSection}
 use Rattle.mp_drill.specs.ScheduleStatics.{events_faults}
 use Rattle.mp_drill.proofs.ScheduleFaults.{names_of, sections_next}

@@ -1,7 +1,7 @@
 use Rattle.std.proofs.Common.{◌≡◌, ◌++◌, ◌+◌, ◌<◌, ℕ, List, [], ◌∷◌, length, map, drop, get_or, append_assoc, ap, sym, ◌∙◌}
 use Rattle.std.specs.List.{flat_map}
-use Rattle.mp_termtext.proofs.Faultless.{nil_parts}
-use Rattle.mp_termtext.proofs.Walks.{left_cons}
+use Rattle.mp_words.proofs.NoFaults.{nil_parts}
+use Rattle.mp_words.proofs.Walks.{left_cons}
 use Rattle.mp_drill.specs.declared.raw.RawSection.{RawSection}
 use Rattle.mp_drill.specs.declared.schedule.Section.{Section}
 use Rattle.mp_drill.specs.ScheduleStatics.{events_faults}

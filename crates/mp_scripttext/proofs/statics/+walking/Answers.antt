@@ -1,7 +1,7 @@
 use Rattle.std.proofs.Common.{ap, sym}
 use Rattle.std.specs.List.{flat_map}
 use Rattle.mp_words.specs.Faults.{least_from}
-use Rattle.mp_termtext.proofs.FaultSteps.{flat_next}
+use Rattle.mp_words.proofs.FaultParts.{flat_next}
 use Rattle.mp_scripttext.specs.Statics.{step_faults}
 use Rattle.mp_scripttext.specs.Strategies.{strategy_of}
 use Rattle.mp_scripttext.proofs.StepLists.{whole_flat}

@@ -1,5 +1,5 @@
 use Rattle.std.proofs.Common.{[]}
-use Rattle.mp_termtext.proofs.MetWalks.{met_next}
+use Rattle.mp_words.proofs.MetWalks.{met_next}
 use Rattle.mp_scripttext.specs.declared.raw.RawEntry.{RawEntry}
 use Rattle.mp_scripttext.proofs.EntryWalks.{entries_next}
 use Rattle.mp_scripttext.proofs.statics.script_fault.Goals as goal

@@ -1,6 +1,6 @@
 use Rattle.std.proofs.Common.{[], ap, sym, ◌∙◌}
 use Rattle.mp_words.specs.Faults.{least_from}
-use Rattle.mp_termtext.proofs.MetWalks.{met_next}
+use Rattle.mp_words.proofs.MetWalks.{met_next}
 use Rattle.mp_scripttext.specs.declared.raw.RawGiven.{RawGiven}
 use Rattle.mp_scripttext.specs.Statics.{need_faults}
 use Rattle.mp_scripttext.proofs.Behind.{given_behind}

@@ -1,8 +1,8 @@
 use Rattle.std.proofs.Common.{◌≡◌, ◌+◌, [], ap, sym, ◌∙◌, drop, is_some, true, false}
 use Rattle.std.specs.List.{flat_map}
 use Rattle.mp_words.specs.Faults.{least_from}
-use Rattle.mp_termtext.proofs.FaultSteps.{flat_next}
-use Rattle.mp_termtext.proofs.Walks.{left_cons}
+use Rattle.mp_words.proofs.FaultParts.{flat_next}
+use Rattle.mp_words.proofs.Walks.{left_cons}
 use Rattle.mp_scripttext.specs.Names.{all_met, given_numbers}
 use Rattle.mp_scripttext.specs.Statics.{given_of, missing_faults}
 use Rattle.mp_scripttext.proofs.Behind.{missing_behind, missing_found, none_missing}

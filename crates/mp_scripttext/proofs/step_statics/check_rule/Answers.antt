@@ -1,7 +1,7 @@
 use Rattle.std.proofs.Common.{[], ap, sym, subst, ◌∙◌}
 use Rattle.std.specs.List.{flat_map}
 use Rattle.mp_words.specs.Faults.{least_from}
-use Rattle.mp_termtext.proofs.FaultSteps.{three_parts}
+use Rattle.mp_words.proofs.FaultParts.{three_parts}
 use Rattle.mp_scripttext.specs.Names.{AreNew, need_numbers}
 use Rattle.mp_scripttext.specs.Statics.{all_given_faults, missing_faults, place_faults}
 use Rattle.mp_scripttext.proofs.DistinctNeeds.{needs_new}

@@ -2,7 +2,7 @@ use Rattle.std.proofs.Common.{ap, ◌∙◌}
 use Rattle.std.specs.List.{flat_map}
 use Rattle.mp_words.specs.Faults.{least_from}
 use Rattle.mp_words.specs.Ranges.{written_number_faults}
-use Rattle.mp_termtext.proofs.FaultSteps.{three_parts}
+use Rattle.mp_words.proofs.FaultParts.{three_parts}
 use Rattle.mp_scripttext.specs.Statics.{rule_faults, rule_named, term_faults}
 use Rattle.mp_scripttext.proofs.step_statics.check_step.Goals as goal
 

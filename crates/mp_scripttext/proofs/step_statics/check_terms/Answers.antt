@@ -1,4 +1,4 @@
-use Rattle.mp_termtext.proofs.FaultSteps.{flat_next}
+use Rattle.mp_words.proofs.FaultParts.{flat_next}
 use Rattle.mp_scripttext.specs.Statics.{term_faults}
 use Rattle.mp_scripttext.proofs.step_statics.check_terms.Goals as goal
 

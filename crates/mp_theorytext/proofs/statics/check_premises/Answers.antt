@@ -1,6 +1,6 @@
 use Rattle.std.proofs.Common.{false}
 use Rattle.mp_theorytext.specs.Statics.{schema_faults}
-use Rattle.mp_termtext.proofs.FaultSteps.{flat_next}
+use Rattle.mp_words.proofs.FaultParts.{flat_next}
 use Rattle.mp_theorytext.proofs.statics.check_premises.Goals as goal
 
 pub loop-premise-preserved : goal.loop-premise-preserved

@@ -1,7 +1,7 @@
 use Rattle.std.proofs.Common.{◌≡◌, ◌++◌, [], ◌+◌, false, ap, drop, arith}
 use Rattle.std.specs.List.{flat_map}
 use Rattle.mp_theorytext.specs.Uses.{uses_in_schema}
-use Rattle.mp_termtext.proofs.Walks.{left_cons}
+use Rattle.mp_words.proofs.Walks.{left_cons}
 use Rattle.mp_theorytext.proofs.UseSteps.{found_on, kept_on, rule_found}
 use Rattle.mp_theorytext.proofs.statics.check_rule_uses.Goals as goal
 
