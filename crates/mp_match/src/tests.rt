@@ -1,13 +1,11 @@
 ghost use Rattle.std.specs.Prelude.{◌≡◌, ◌<◌, ◌∷◌, [], IfOk};
-ghost use Rattle.mp_schema.specs.Conditions.{has_two_contexts};
 ghost use Rattle.mp_schema.specs.Values.{find_meta, variables_of};
 
-use crate::sizes::count_items;
 use crate::*;
 use mp_logic::{List, Sym};
 use mp_schema::{
-    CtxVal, Inst, Item, MetaVal, PBound, ParamPat, Pattern, Schema, context_value, meta_value,
-    rewrite_fault, rule_fault,
+    CtxVal, Inst, Item, MetaVal, PBound, ParamPat, Pattern, Schema, context_value, has_two_contexts,
+    meta_value, rewrite_fault, rule_fault,
 };
 use mp_term::{
     Bound, Param, Sequent, Term, depth, few_binders, in_scope, same, sequent_few_binders,
@@ -123,12 +121,6 @@ fn context(alloc: Global, name: Sym, ctxs: &[Sym]) -> Result<Item, Fail> {
 
 // ## Matches
 
-fn has_two(concl: &Schema) -> bool
-    ensures { result ≡ has_two_contexts concl.now }
-{
-    count_items(&concl.items).contexts == 2
-}
-
 fn matched(
     alloc: Global,
     concl: &Schema,
@@ -141,7 +133,7 @@ fn matched(
     if !sequent_in_scope(goal) || !within_limits(goal) || !sequent_few_binders(goal) {
         return Err(Fail::from("no goal"));
     }
-    if first.is_some() != has_two(concl) {
+    if first.is_some() != has_two_contexts(concl) {
         return Err(Fail::from("a size too many or too few"));
     }
     Ok(

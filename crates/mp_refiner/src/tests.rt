@@ -1,6 +1,5 @@
 //! Steps by calls: each rule of a theory on goals that it fits and on goals that it doesn't, and the largest subgoal.
 ghost use Rattle.std.specs.Prelude.{◌≡◌, IsTrue, IfOk};
-ghost use Rattle.mp_schema.specs.Conditions.{has_two_contexts};
 ghost use Rattle.mp_theory.specs.Allowed.{is_good, are_for};
 
 use crate::samples::By::{
@@ -11,7 +10,7 @@ use crate::samples::{By, DOUBLING, LOGIC, Line, Node, goal, operation, term, the
 use crate::{Given, Just, Refiner};
 use mp_logic::Why::{BadArgument, NoMatch, TooLarge};
 use mp_logic::{List, Logic, StepErr, Sym, Why};
-use mp_schema::{Item, Schema};
+use mp_schema::has_two_contexts;
 use mp_term::{
     Bound, Sequent, Term, depth, few_binders, in_scope, sequent_few_binders, sequent_in_scope,
     within_limits,
@@ -26,19 +25,6 @@ fn is_good_goal(goal: &Sequent) -> bool
     ensures { result ≡ is_good goal.now }
 {
     sequent_in_scope(goal) && sequent_few_binders(goal) && within_limits(goal)
-}
-
-fn has_two(concl: &Schema) -> bool
-    ensures { result ≡ has_two_contexts concl.now }
-{
-    let mut contexts = 0u64;
-    for item in concl.items.as_slice() {
-        match item {
-            Item::Ctx { .. } => contexts += 1,
-            Item::Hyp(_) => {}
-        }
-    }
-    contexts == 2
 }
 
 // The term for the need, if there is one.
@@ -68,7 +54,7 @@ fn answer(
     let place = theory.rule_named(Sym(by as u32)).ok_or("no rule")?;
     let rule = theory.rule(place).ok_or("no rule")?;
     let given = given(alloc, rule.needs.as_slice(), node)?;
-    if first.is_some() != has_two(&rule.concl) || !is_good_goal(goal) {
+    if first.is_some() != has_two_contexts(&rule.concl) || !is_good_goal(goal) {
         return Err(Fail::from("no such step"));
     }
     let just = Just::Rule {

@@ -1,5 +1,5 @@
 ghost use Rattle.std.specs.Prelude.{◌≡◌, length};
-ghost use Rattle.mp_schema.specs.Conditions.{nothing_before, each_item, item_between, names_in, context_names, has_all, is_apart, is_framed};
+ghost use Rattle.mp_schema.specs.Conditions.{nothing_before, each_item, item_between, names_in, context_names, has_all, has_two_contexts, is_apart, is_framed};
 ghost use Rattle.mp_schema.specs.Faults.{is_listed, is_single};
 
 use crate::demand::{Demand, item_keeps, pattern_keeps, schema_keeps};
@@ -95,12 +95,19 @@ pub(crate) fn count_contexts(items: &[Item]) -> u64
     contexts
 }
 
+/// Whether exactly two items of the schema are contexts. A step by a rule with such a conclusion says how many hypotheses
+/// the first one has.
+pub fn has_two_contexts(schema: &Schema) -> bool
+    ensures { result ≡ has_two_contexts schema.now }
+{
+    count_contexts(schema.items.as_slice()) == 2
+}
+
 // Whether the named hypotheses stand between the contexts, if there are two.
 pub(crate) fn is_schema_framed(s: &Schema) -> bool
     ensures { result ≡ is_framed s.now }
 {
-    let items = s.items.as_slice();
-    count_contexts(items) != 2 || are_hypotheses_between(items)
+    !has_two_contexts(s) || are_hypotheses_between(s.items.as_slice())
 }
 
 // Whether one context stands before each named hypothesis.

@@ -37,6 +37,7 @@ mod schema;
 mod tests;
 mod uses;
 
+pub use contexts::has_two_contexts;
 pub use fault::SchemaFault;
 pub use find::{context_value, meta_value, param_value};
 pub use instance::{CtxVal, Inst, MetaVal, ParamVal};

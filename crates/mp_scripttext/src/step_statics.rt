@@ -1,7 +1,6 @@
-ghost use Rattle.std.specs.Prelude.{◌≡◌, [], Some, IfOk, IfSome, if◌then◌else◌, length};
+ghost use Rattle.std.specs.Prelude.{◌≡◌, [], Some, IfOk, IfSome, if◌then◌else◌};
 ghost use Rattle.std.specs.List.{flat_map, list_all};
 ghost use Rattle.std.specs.Option.{option_copied};
-ghost use Rattle.mp_schema.specs.Conditions.{has_two_contexts, names_in};
 ghost use Rattle.mp_theory.specs.Tables.{IsRule};
 ghost use Rattle.mp_words.specs.declared.fail.TextWhy.TheVariants as why;
 ghost use Rattle.mp_words.specs.Faults.{fault_if, is_behind, least_from};
@@ -12,7 +11,7 @@ use crate::names::{find_need, given_names, need_names};
 use crate::raw::{RawGiven, RawStep};
 use mp_logic::{NoMemory, Sym};
 use mp_names::NameSet;
-use mp_schema::{Item, Schema};
+use mp_schema::has_two_contexts;
 use mp_termtext::check_bound_term;
 use mp_theory::{Need, Rule, Theory};
 use mp_words::{Fault, TextWhy, behind, check_written_number, sooner_of};
@@ -33,31 +32,12 @@ fn find_rule(theory: &Theory, name: Sym) -> Option<&Rule>
     theory.rule(place)
 }
 
-fn count_contexts(items: &[Item]) -> u64
-    ensures { result ≡ length (names_in items.now) }
-{
-    let mut contexts = 0u64;
-    for item in items {
-        if let Item::Ctx { .. } = item {
-            contexts += 1;
-        }
-    }
-    contexts
-}
-
-/// Whether exactly two items are contexts.
-fn has_two(schema: &Schema) -> bool
-    ensures { result ≡ has_two_contexts schema.now }
-{
-    count_contexts(schema.items.as_slice()) == 2
-}
-
 /// The sooner one of the fault that is held and AtNeeded or AtRefused: `at` has to stand exactly where the conclusion of the
 /// rule has two contexts.
 fn check_place(held: Option<Fault>, rule: &Rule, raw: &RawStep) -> Option<Fault>
     ensures { result ≡ least_from held (place_faults rule.now raw.now raw.now.place) }
 {
-    let needed = has_two(&rule.concl);
+    let needed = has_two_contexts(&rule.concl);
     match raw.place {
         None if needed => sooner_of(held, raw.rule.left, TextWhy::AtNeeded),
         Some(place) if !needed => sooner_of(held, place.left, TextWhy::AtRefused),
