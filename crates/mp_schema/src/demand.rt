@@ -33,12 +33,7 @@ pub(crate) fn item_keeps<D: Demand>(item: &Item, demand: &D) -> bool
     match item {
         Item::Hyp(p) => pattern_keeps(p, demand),
         Item::Ctx { name, ctxs, args } => {
-            let place = Place {
-                is_context: true,
-                name: *name,
-                ctxs: ctxs.as_slice(),
-                args: args.as_slice(),
-            };
+            let place = Place::new(true, *name, ctxs, args);
             demand.is_kept(place) && patterns_keep(args.as_slice(), demand)
         }
     }
@@ -53,12 +48,7 @@ pub(crate) fn pattern_keeps<D: Demand>(p: &Pattern, demand: &D) -> bool
         Pattern::Var(_) => true,
         Pattern::Op { subs, .. } => bodies_keep(subs.as_slice(), demand),
         Pattern::Meta { name, ctxs, args } => {
-            let place = Place {
-                is_context: false,
-                name: *name,
-                ctxs: ctxs.as_slice(),
-                args: args.as_slice(),
-            };
+            let place = Place::new(false, *name, ctxs, args);
             demand.is_kept(place) && patterns_keep(args.as_slice(), demand)
         }
     }

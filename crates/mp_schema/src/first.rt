@@ -43,12 +43,7 @@ fn first_in_item(item: &Item, name: Sym) -> Option<Place<'_>>
             args,
         } => {
             if other.0 == name.0 {
-                return Some(Place {
-                    is_context: true,
-                    name: *other,
-                    ctxs: ctxs.as_slice(),
-                    args: args.as_slice(),
-                });
+                return Some(Place::new(true, *other, ctxs, args));
             }
             first_in_patterns(args.as_slice(), name)
         }
@@ -69,12 +64,7 @@ pub(crate) fn first_in_pattern(p: &Pattern, name: Sym) -> Option<Place<'_>>
             args,
         } => {
             if other.0 == name.0 {
-                return Some(Place {
-                    is_context: false,
-                    name: *other,
-                    ctxs: ctxs.as_slice(),
-                    args: args.as_slice(),
-                });
+                return Some(Place::new(false, *other, ctxs, args));
             }
             first_in_patterns(args.as_slice(), name)
         }

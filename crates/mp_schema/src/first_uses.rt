@@ -80,12 +80,7 @@ fn enter_item<'a>(item: &'a Item, uses: &mut FirstUses<'a>) -> Result<(), NoMemo
     match item {
         Item::Hyp(p) => enter_pattern(p, uses),
         Item::Ctx { name, ctxs, args } => {
-            let place = Place {
-                is_context: true,
-                name: *name,
-                ctxs: ctxs.as_slice(),
-                args: args.as_slice(),
-            };
+            let place = Place::new(true, *name, ctxs, args);
             uses.enter(place)?;
             enter_patterns(args.as_slice(), uses)
         }
@@ -100,12 +95,7 @@ fn enter_pattern<'a>(p: &'a Pattern, uses: &mut FirstUses<'a>) -> Result<(), NoM
         Pattern::Var(_) => Ok(()),
         Pattern::Op { subs, .. } => enter_bodies(subs.as_slice(), uses),
         Pattern::Meta { name, ctxs, args } => {
-            let place = Place {
-                is_context: false,
-                name: *name,
-                ctxs: ctxs.as_slice(),
-                args: args.as_slice(),
-            };
+            let place = Place::new(false, *name, ctxs, args);
             uses.enter(place)?;
             enter_patterns(args.as_slice(), uses)
         }

@@ -94,12 +94,8 @@ fn are_few_arguments(args: &[Pattern]) -> bool
 pub(crate) fn is_shallow(s: &Schema) -> bool
     ensures { result ≡ is_shallow_schema s.now }
 {
-    for item in s.items.as_slice() {
-        if !is_item_shallow(item) {
-            return false;
-        }
-    }
-    is_pattern_shallow(&s.concl)
+    let items = s.items.as_slice();
+    items.iter().all(|item| is_item_shallow(item)) && is_pattern_shallow(&s.concl)
 }
 
 fn is_item_shallow(item: &Item) -> bool

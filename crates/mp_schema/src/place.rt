@@ -5,7 +5,7 @@ ghost use Rattle.mp_schema.specs.Faults.{has_level, are_distinct, is_like};
 ghost use Rattle.mp_schema.specs.Places.{occurrence_at};
 
 use crate::{Item, Pattern};
-use mp_logic::Sym;
+use mp_logic::{List, Sym};
 
 /// A place in a text where a context is an item, or where a second-order variable stands.
 #[derive(Clone, Copy)]
@@ -18,6 +18,25 @@ pub(crate) struct Place<'a> {
     pub ctxs: &'a [Sym],
     /// Its arguments.
     pub args: &'a [Pattern],
+}
+
+impl<'a> Place<'a> {
+    // Where a context or a second-order variable has this list of contexts and these arguments.
+    pub(crate) fn new(
+        is_context: bool,
+        name: Sym,
+        ctxs: &'a List<Sym>,
+        args: &'a List<Pattern>,
+    ) -> Place<'a>
+        ensures { occurrence_at result ≡ record { is_context = is_context; name = name; ctxs = ctxs.now; levels = map level_of args.now } }
+    {
+        Place {
+            is_context,
+            name,
+            ctxs: ctxs.as_slice(),
+            args: args.as_slice(),
+        }
+    }
 }
 
 // Whether both are of one kind, with the same list of contexts and as many arguments.

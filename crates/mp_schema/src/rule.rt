@@ -126,48 +126,28 @@ fn is_rule_few(premises: &[Schema], concl: &Schema) -> bool
 fn is_rule_shallow(premises: &[Schema], concl: &Schema) -> bool
     ensures { result ≡ rule_is_shallow premises.now concl.now }
 {
-    for premise in premises {
-        if !is_shallow(premise) {
-            return false;
-        }
-    }
-    is_shallow(concl)
+    premises.iter().all(|premise| is_shallow(premise)) && is_shallow(concl)
 }
 
 #[tactic(auto, unfolding(crate::specs::Faults::rule_is_small))]
 fn is_rule_small(premises: &[Schema], concl: &Schema) -> bool
     ensures { result ≡ rule_is_small premises.now concl.now }
 {
-    for premise in premises {
-        if !is_small(premise) {
-            return false;
-        }
-    }
-    is_small(concl)
+    premises.iter().all(|premise| is_small(premise)) && is_small(concl)
 }
 
 #[tactic(auto, unfolding(crate::specs::Faults::rule_is_closed))]
 fn is_rule_closed(premises: &[Schema], concl: &Schema) -> bool
     ensures { result ≡ rule_is_closed premises.now concl.now }
 {
-    for premise in premises {
-        if !is_schema_closed(premise) {
-            return false;
-        }
-    }
-    is_schema_closed(concl)
+    premises.iter().all(|premise| is_schema_closed(premise)) && is_schema_closed(concl)
 }
 
 #[tactic(auto, unfolding(crate::specs::Faults::rule_is_single))]
 fn is_rule_single(premises: &[Schema], concl: &Schema) -> bool
     ensures { result ≡ rule_is_single premises.now concl.now }
 {
-    for premise in premises {
-        if !is_schema_single(premise) {
-            return false;
-        }
-    }
-    is_schema_single(concl)
+    premises.iter().all(|premise| is_schema_single(premise)) && is_schema_single(concl)
 }
 
 #[tactic(auto, unfolding(crate::specs::Faults::rule_is_listed))]

@@ -1,0 +1,13 @@
+use Rattle.std.proofs.Common.{◌&&◌, ap, sym, ◌∙◌, rules}
+use Rattle.std.proofs.lemmas.Iterator.{YieldsList-from_slice}
+use Rattle.std.proofs.lemmas.Iterator.Search.{all_from_yields_List}
+use borrow.Author.Tests.{tests}
+use Rattle.mp_schema.specs.Limits.{is_small_schema}
+use Rattle.mp_schema.specs.Faults.{rule_is_small}
+use Rattle.mp_schema.proofs.rule.is_rule_small.Goals as goal
+
+pub returns-then-all : goal.returns-then-all
+unfolding rule_is_small
+returns-then-all c =
+    let all = all_from_yields_List is_small_schema _ _ c.all.result c.all.ensures.ran (YieldsList-from_slice c.args.premises.now cc) (λ x b q k. search (rules, tests)) in
+    c.is_small.ensures ∙ ap (λ b. b && is_small_schema c.args.concl.now) (sym c.if-all.true ∙ all)
