@@ -23,6 +23,7 @@ IsGivenTerm t ts rest = IsBound t.0 ts rest × (t.1 ≡ length ts)
 abbrev pub IsGiven : RawGiven → List Word → List Word → Type 0
 IsGiven g = Both IsCapAt (After (IsMark mark.Becomes) IsGivenTerm) (g.name, (g.term, g.left))
 
+-- where the reading of a given term is stuck
 abbrev pub StuckGiven : List Word → List Word → Type 0
 StuckGiven = StuckBoth IsCapAt (Lacks IsCapAt) (StuckAfter (IsMark mark.Becomes) StuckBound)
 
@@ -30,6 +31,7 @@ StuckGiven = StuckBoth IsCapAt (Lacks IsCapAt) (StuckAfter (IsMark mark.Becomes)
 abbrev pub AreSomeGiven : List RawGiven → List Word → List Word → Type 0
 AreSomeGiven = After (IsMark mark.OpenBracket) (Separated IsGiven (IsMark mark.Semicolon) (IsMark mark.CloseBracket))
 
+-- where the reading of given terms between brackets is stuck
 abbrev pub StuckSomeGiven : List Word → List Word → Type 0
 StuckSomeGiven = StuckAfter (IsMark mark.OpenBracket) (StuckSeparated IsGiven StuckGiven (IsMark mark.Semicolon) (IsMark mark.CloseBracket))
 
@@ -37,6 +39,7 @@ StuckSomeGiven = StuckAfter (IsMark mark.OpenBracket) (StuckSeparated IsGiven St
 abbrev pub AreGiven : List RawGiven → List Word → List Word → Type 0
 AreGiven = Optional (IsWord keyword.With) [] AreSomeGiven
 
+-- where the reading of the given terms behind `with` is stuck
 abbrev pub StuckAllGiven : List Word → List Word → Type 0
 StuckAllGiven = StuckOptional (IsWord keyword.With) StuckSomeGiven
 
@@ -44,6 +47,7 @@ StuckAllGiven = StuckOptional (IsWord keyword.With) StuckSomeGiven
 abbrev pub IsPlace : Option RawNumber → List Word → List Word → Type 0
 IsPlace = Led (IsWord keyword.At) IsNumberAt
 
+-- where `at` is read and no number follows
 abbrev pub StuckPlace : List Word → List Word → Type 0
 StuckPlace = StuckOptional (IsWord keyword.At) (Lacks IsNumberAt)
 
@@ -51,6 +55,7 @@ StuckPlace = StuckOptional (IsWord keyword.At) (Lacks IsNumberAt)
 abbrev pub IsStep : RawStep → List Word → List Word → Type 0
 IsStep s = Both (IsNameBehind keyword.Rule) (Both IsPlace AreGiven) (s.rule, (s.place, s.given))
 
+-- where the reading of a step is stuck
 abbrev pub StuckStep : List Word → List Word → Type 0
 StuckStep = StuckBoth (IsNameBehind keyword.Rule) (StuckNameBehind keyword.Rule) (StuckBoth IsPlace StuckPlace StuckAllGiven)
 
@@ -67,12 +72,14 @@ mutual
     more : (ss : List RawStrategy) (ts rest : List Word) (s : RawStrategy) (others : List RawStrategy) (us vs : List Word) → ss ≡ s ∷ others → IsStrategy s ts us → IsWord keyword.Then us vs → IsChain others vs rest → IsChain ss ts rest
 
 mutual
+  -- where the reading of a strategy is stuck
   pub data StuckStrategy : List Word → List Word → Type 0 where
     no_strategy : (ts rest : List Word) → No (IsWord keyword.Id) ts → No (IsWord keyword.Rule) ts → No (IsMark mark.OpenParenthesis) ts → rest ≡ ts → StuckStrategy ts rest
     in_step : (ts rest us : List Word) → IsWord keyword.Rule ts us → StuckStep ts rest → StuckStrategy ts rest
     in_chain : (ts rest us : List Word) → IsMark mark.OpenParenthesis ts us → StuckChain us rest → StuckStrategy ts rest
     behind_chain : (ts rest : List Word) (ss : List RawStrategy) (us : List Word) → IsMark mark.OpenParenthesis ts us → IsChain ss us rest → No (IsMark mark.CloseParenthesis) rest → StuckStrategy ts rest
 
+  -- where the reading of a strategy of a chain is stuck
   pub data StuckChain : List Word → List Word → Type 0 where
     in_strategy : (ts rest : List Word) → StuckStrategy ts rest → StuckChain ts rest
     in_others : (ts rest : List Word) (s : RawStrategy) (us vs : List Word) → IsStrategy s ts us → IsWord keyword.Then us vs → StuckChain vs rest → StuckChain ts rest
@@ -85,6 +92,7 @@ IsWhole s ts rest = IsChain s.0 ts rest × (s.1 ≡ length ts)
 abbrev pub IsFuel : Option RawNumber → List Word → List Word → Type 0
 IsFuel = Led (IsWord keyword.Fuel) IsNumberAt
 
+-- where `fuel` is read and no number follows
 abbrev pub StuckFuel : List Word → List Word → Type 0
 StuckFuel = StuckOptional (IsWord keyword.Fuel) (Lacks IsNumberAt)
 
@@ -94,6 +102,7 @@ IsEntry e =
     Both (IsNameBehind keyword.Goal) (Both IsFuel (After (IsMark mark.Colon) (Both IsSequent (After (IsWord keyword.By) IsWhole))))
     (e.name, (e.fuel, (e.goal, (e.strategy, e.left))))
 
+-- where the reading of a goal is stuck
 abbrev pub StuckEntry : List Word → List Word → Type 0
 StuckEntry = StuckBoth (IsNameBehind keyword.Goal) (StuckNameBehind keyword.Goal) (StuckBoth IsFuel StuckFuel (StuckAfter (IsMark mark.Colon) (StuckBoth IsSequent StuckSequent (StuckAfter (IsWord keyword.By) StuckChain))))
 
@@ -101,5 +110,6 @@ StuckEntry = StuckBoth (IsNameBehind keyword.Goal) (StuckNameBehind keyword.Goal
 abbrev pub IsScript : List RawEntry → List Word → List Word → Type 0
 IsScript = Many IsEntry
 
+-- where the reading of the goals is stuck, which may be at what stands behind them
 abbrev pub StuckScript : List Word → List Word → Type 0
 StuckScript = StuckMany IsEntry StuckEntry

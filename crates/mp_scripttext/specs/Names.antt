@@ -13,9 +13,10 @@ all_met met (n ∷ ns) = all_met (with_met met n) ns
 abbrev pub AreNew : List ℕ → Type 0
 AreNew ns = all_met [] ns ≡ ns
 
--- the names of needs, and those of given terms
+-- the names of needs
 abbrev pub need_numbers : List Need → List ℕ
 need_numbers = map (λ n. n.name.0)
 
+-- the names of given terms
 abbrev pub given_numbers : List RawGiven → List ℕ
 given_numbers = map (λ g. g.name.name.0)

@@ -64,6 +64,7 @@ abbrev pub rule_faults : Option Rule → RawStep → List Fault
 rule_faults None s = fault s.rule.left why.UnknownName
 rule_faults (Some rule) s = place_faults rule s s.place ++ flat_map (missing_faults s) rule.needs ++ all_given_faults rule.needs [] s.given
 
+-- the rule at this place, if there is one
 abbrev pub rule_at : List Rule → Option ℕ → Option Rule
 rule_at rules None = None
 rule_at rules (Some place) = slice_get rules place

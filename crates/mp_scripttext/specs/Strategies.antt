@@ -15,12 +15,15 @@ pub record Strategy : Type 0 where
   pub depth : ℕ
   pub rows : (node step : ℕ) → List Tac
 
+-- `id`: a node and no step
 abbrev pub id_alone : Strategy
 id_alone = record { steps = []; nodes = 1; depth = 1; rows = λ node step. tac.Id ∷ [] }
 
+-- one step: a node of its own
 abbrev pub step_alone : RawStep → Strategy
 step_alone s = record { steps = s ∷ []; nodes = 1; depth = 1; rows = λ node step. tac.Step (record { 0 = step }) ∷ [] }
 
+-- the row of a `then` with these numbers of its parts
 abbrev pub then_row : (first second : ℕ) → Tac
 then_row first second = tac.Then (record { 0 = first }) (record { 0 = second })
 
@@ -43,6 +46,7 @@ abbrev pub chain_of : List Strategy → Strategy
 chain_of [] = id_alone
 chain_of (a ∷ more) = then_all a more
 
+-- what one level of a written strategy stands for
 abbrev pub strategy_step : RawStrategy-F Strategy → Strategy
 strategy_step layer.Id = id_alone
 strategy_step (layer.Step s) = step_alone s

@@ -27,6 +27,7 @@ body_of (Some g) = value_of 200 g.term.body (names_of g.term.binders)
 abbrev pub given_for : List RawGiven → Need → Given
 given_for gs need = record { name = need.name; arity = need.arity; body = body_of (given_of gs need.name) }
 
+-- the needs of the rule, if there is one
 abbrev pub needs_at : Option Rule → List Need
 needs_at None = []
 needs_at (Some rule) = rule.needs
