@@ -6,5 +6,6 @@ pub mod ScheduleGrammar
 pub mod ScheduleReading
 pub mod ScheduleStatics
 pub mod ScheduleValues
+pub mod Sections
 pub mod Trace
 pub mod Workers

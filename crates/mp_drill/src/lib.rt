@@ -8,6 +8,7 @@ mod raw;
 mod reading;
 mod rounds;
 mod schedule;
+mod sections;
 mod statics;
 mod syntax;
 mod value;
@@ -19,8 +20,11 @@ pub use ranges::in_range;
 pub use raw::{RawEvent, RawSection};
 pub use reading::read_schedule;
 pub use schedule::{Event, Reply, Section};
+pub use sections::Sections;
 
 #[cfg(test)]
 mod reading_tests;
+#[cfg(test)]
+mod sections_tests;
 #[cfg(test)]
 mod tests;
