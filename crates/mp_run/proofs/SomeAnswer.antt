@@ -12,7 +12,7 @@ use Rattle.mp_words.specs.Faults.{least}
 use Rattle.mp_words.specs.Texts.{words_in, names_in, of_lexical, error_at, bad_token, stuck, broken, ReadsText}
 use Rattle.mp_words.proofs.Answering.{none_least}
 use Rattle.mp_theory.specs.declared.rule.Rule.{Rule}
-use Rattle.mp_theorytext.specs.Grammar.{IsTheory, StuckTheory}
+use Rattle.mp_schematext.specs.Grammar.{IsTheory, StuckTheory}
 use Rattle.mp_theorytext.specs.Reading.{ReadsTheory}
 use Rattle.mp_theorytext.specs.Statics.{theory_faults}
 use Rattle.mp_theorytext.specs.Values.{rules_of}

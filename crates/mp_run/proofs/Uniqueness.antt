@@ -18,7 +18,7 @@ use Rattle.mp_drill.specs.ScheduleReading.{ReadsSchedule, OneScheduleText}
 use Rattle.mp_words.specs.Texts.{OneText, ReadsText}
 use Rattle.mp_words.specs.declared.fail.TextErr.{TextErr}
 use Rattle.mp_words.specs.declared.fault.Fault.{Fault}
-use Rattle.mp_theorytext.specs.Grammar.{IsTheory, StuckTheory}
+use Rattle.mp_schematext.specs.Grammar.{IsTheory, StuckTheory}
 use Rattle.mp_theorytext.specs.Statics.{theory_faults}
 use Rattle.mp_scripttext.specs.Grammar.{IsScript, StuckScript}
 use Rattle.mp_scripttext.specs.Statics.{script_faults}

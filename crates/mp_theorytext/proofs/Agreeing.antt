@@ -17,16 +17,16 @@ use Rattle.mp_words.specs.Faults.{fault_if}
 use Rattle.mp_termtext.specs.Statics.{each_faults, level_by, names_of, or_here, place_in}
 use Rattle.mp_words.proofs.NoFaults.{nil_parts, no_fault}
 use Rattle.mp_words.specs.declared.raw.RawName.{RawName}
-use Rattle.mp_theorytext.specs.declared.raw.RawParamPat.{RawParamPat}
-use Rattle.mp_theorytext.specs.declared.raw.RawPatternBound.{RawPatternBound}
-use Rattle.mp_theorytext.specs.declared.raw.RawPattern.{RawPattern, the_lemmas}
-use Rattle.mp_theorytext.specs.declared.raw.RawPattern as raw
+use Rattle.mp_schematext.specs.declared.raw.RawParamPat.{RawParamPat}
+use Rattle.mp_schematext.specs.declared.raw.RawPatternBound.{RawPatternBound}
+use Rattle.mp_schematext.specs.declared.raw.RawPattern.{RawPattern, the_lemmas}
+use Rattle.mp_schematext.specs.declared.raw.RawPattern as raw
 use Rattle.mp_theorytext.specs.declared.uses.First.{First}
 use Rattle.mp_theorytext.specs.Scopes.{level_in, names_in}
 use Rattle.mp_theorytext.specs.Values.{in_32_bits, each_value, pattern_of, bound_of}
 use Rattle.mp_theorytext.specs.Uses.{Argument, Use, Shown, shown, argument_of, uses_in, uses_in_bound, list_faults, argument_faults, unless_new, variable_name, option_list, first_of}
 use Rattle.mp_theorytext.specs.Statics.{node_faults, bound_node_faults}
-use Rattle.mp_theorytext.proofs.RawInduction.{OfEachBody, OfEachArg, each_raw, each_args}
+use Rattle.mp_schematext.proofs.RawInduction.{OfEachBody, OfEachArg, each_raw, each_args}
 use Rattle.mp_theorytext.proofs.RawLayers.{pattern_of-Var, pattern_of-Op, pattern_of-Meta, bound_of-is}
 use Rattle.mp_theorytext.proofs.UseSteps.{uses_in-Var, uses_in-Op, uses_in-Meta, uses_in_bound-is}
 use Rattle.mp_theorytext.proofs.InRange.{level_found, level_below, binders_few, body_faultless, op_bodies, meta_shallow, meta_args, length-each}

@@ -8,12 +8,12 @@ use Rattle.mp_words.specs.Faults.{least_from, too_many, fault_if}
 use Rattle.mp_words.proofs.Soonest.{least_from_append}
 use Rattle.mp_words.proofs.FaultParts.{two_parts, three_parts, four_parts}
 use Rattle.mp_words.proofs.Walks.{left_cons}
-use Rattle.mp_theorytext.specs.declared.raw.RawItem.{RawItem}
-use Rattle.mp_theorytext.specs.declared.raw.RawSchema.{RawSchema}
+use Rattle.mp_schematext.specs.declared.raw.RawItem.{RawItem}
+use Rattle.mp_schematext.specs.declared.raw.RawSchema.{RawSchema}
 use Rattle.mp_schema.specs.Conditions.{has}
 use Rattle.mp_names.specs.Sets.{is_met, with_met, is_among, Met}
 use Rattle.mp_names.proofs.Meeting.{meeting}
-use Rattle.mp_theorytext.specs.declared.raw.RawRule.{RawRule}
+use Rattle.mp_schematext.specs.declared.raw.RawRule.{RawRule}
 use Rattle.mp_theorytext.specs.Scopes.{names_in, contexts_past, contexts_behind, env_past, env_behind}
 use Rattle.mp_theorytext.specs.declared.uses.First.{First}
 use Rattle.mp_theorytext.specs.Uses.{Use, list_faults, argument_faults, find_first, unless_like, use_faults, uses_faults, uses_in_item, uses_in_items, uses_in_rule, hole_faults, raw_schema_holes}

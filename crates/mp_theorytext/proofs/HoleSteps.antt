@@ -10,10 +10,10 @@ use Rattle.mp_words.specs.declared.fault.Fault.{Fault}
 use Rattle.mp_words.specs.declared.fail.TextWhy.TheVariants as why
 use Rattle.mp_words.specs.declared.raw.RawName.{RawName}
 use Rattle.mp_words.specs.Faults.{fault_if, least_from}
-use Rattle.mp_theorytext.specs.declared.raw.RawParamPat.{RawParamPat}
-use Rattle.mp_theorytext.specs.declared.raw.RawPatternBound.{RawPatternBound}
-use Rattle.mp_theorytext.specs.declared.raw.RawPattern.{RawPattern, the_lemmas}
-use Rattle.mp_theorytext.specs.declared.raw.RawPattern as raw
+use Rattle.mp_schematext.specs.declared.raw.RawParamPat.{RawParamPat}
+use Rattle.mp_schematext.specs.declared.raw.RawPatternBound.{RawPatternBound}
+use Rattle.mp_schematext.specs.declared.raw.RawPattern.{RawPattern, the_lemmas}
+use Rattle.mp_schematext.specs.declared.raw.RawPattern as raw
 use Rattle.mp_theorytext.specs.Uses.{hole_faults, holes_in_param, raw_holes, raw_bound_holes}
 use Rattle.mp_words.proofs.FaultParts.{two_parts}
 use Rattle.mp_theorytext.proofs.FaultWalks.{among_has}

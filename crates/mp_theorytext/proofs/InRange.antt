@@ -21,15 +21,15 @@ use Rattle.mp_termtext.specs.Statics.{deep, each_faults, level_by, names_of, pla
 use Rattle.mp_words.proofs.NoFaults.{nil_parts, not_many}
 use Rattle.mp_termtext.proofs.Faultless.{not_deep, place_below}
 use Rattle.mp_words.specs.declared.raw.RawName.{RawName}
-use Rattle.mp_theorytext.specs.declared.raw.RawParamPat.{RawParamPat}
-use Rattle.mp_theorytext.specs.declared.raw.RawPatternBound.{RawPatternBound}
-use Rattle.mp_theorytext.specs.declared.raw.RawPattern.{RawPattern}
-use Rattle.mp_theorytext.specs.declared.raw.RawPattern as raw
+use Rattle.mp_schematext.specs.declared.raw.RawParamPat.{RawParamPat}
+use Rattle.mp_schematext.specs.declared.raw.RawPatternBound.{RawPatternBound}
+use Rattle.mp_schematext.specs.declared.raw.RawPattern.{RawPattern}
+use Rattle.mp_schematext.specs.declared.raw.RawPattern as raw
 use Rattle.mp_theorytext.specs.Scopes.{level_in, names_in}
 use Rattle.mp_theorytext.specs.Values.{Valued, in_32_bits, each_value, pattern_of, bound_of}
 use Rattle.mp_theorytext.specs.Uses.{Use, Shown, shown, argument_of, uses_in, uses_in_bound}
 use Rattle.mp_theorytext.specs.Statics.{node_faults, bound_node_faults}
-use Rattle.mp_theorytext.proofs.RawInduction.{OfEachBody, OfEachArg, each_raw, each_args}
+use Rattle.mp_schematext.proofs.RawInduction.{OfEachBody, OfEachArg, each_raw, each_args}
 use Rattle.mp_theorytext.proofs.RawLayers.{pattern_of-Var, pattern_of-Op, pattern_of-Meta, bound_of-is, node_faults-Var, node_faults-Op, node_faults-Meta, bound_node_faults-is}
 use Rattle.mp_theorytext.proofs.UseSteps.{uses_in-Op, uses_in-Meta, uses_in_bound-is}
 

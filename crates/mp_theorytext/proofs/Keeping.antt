@@ -17,9 +17,9 @@ use Rattle.mp_words.specs.declared.fail.TextWhy.TheVariants as why
 use Rattle.mp_words.specs.declared.fault.Fault.{Fault}
 use Rattle.mp_words.specs.Faults.{fault_if, too_many}
 use Rattle.mp_words.proofs.NoFaults.{nil_parts, no_fault, not_many}
-use Rattle.mp_theorytext.specs.declared.raw.RawItem.{RawItem}
-use Rattle.mp_theorytext.specs.declared.raw.RawItem.TheVariants as item
-use Rattle.mp_theorytext.specs.declared.raw.RawSchema.{RawSchema}
+use Rattle.mp_schematext.specs.declared.raw.RawItem.{RawItem}
+use Rattle.mp_schematext.specs.declared.raw.RawItem.TheVariants as item
+use Rattle.mp_schematext.specs.declared.raw.RawSchema.{RawSchema}
 use Rattle.mp_theorytext.specs.Scopes.{env_past, env_behind, contexts_past, contexts_behind}
 use Rattle.mp_theorytext.specs.Values.{each_value, pattern_of, item_of, items_of, schema_of}
 use Rattle.mp_theorytext.specs.Uses.{Use, Shown, shown, uses_in, uses_in_item, uses_in_items, uses_in_schema, first_of}

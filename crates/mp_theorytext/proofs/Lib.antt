@@ -5,8 +5,6 @@ pub mod Faultlessness
 pub mod HoleSteps
 pub mod InRange
 pub mod Keeping
-pub mod OneReading
-pub mod RawInduction
 pub mod RawLayers
 pub mod RulesMade
 pub mod SizesAndHoles

@@ -6,10 +6,10 @@ use Rattle.mp_schema.specs.declared.pattern.Pattern as pat
 use Rattle.mp_words.specs.Faults.{too_many}
 use Rattle.mp_termtext.specs.Statics.{deep, each_faults, names_of, unless_bound}
 use Rattle.mp_words.specs.declared.raw.RawName.{RawName}
-use Rattle.mp_theorytext.specs.declared.raw.RawParamPat.{RawParamPat}
-use Rattle.mp_theorytext.specs.declared.raw.RawPatternBound.{RawPatternBound}
-use Rattle.mp_theorytext.specs.declared.raw.RawPattern.{RawPattern, the_lemmas}
-use Rattle.mp_theorytext.specs.declared.raw.RawPattern as raw
+use Rattle.mp_schematext.specs.declared.raw.RawParamPat.{RawParamPat}
+use Rattle.mp_schematext.specs.declared.raw.RawPatternBound.{RawPatternBound}
+use Rattle.mp_schematext.specs.declared.raw.RawPattern.{RawPattern, the_lemmas}
+use Rattle.mp_schematext.specs.declared.raw.RawPattern as raw
 use Rattle.mp_theorytext.specs.Scopes.{level_in, names_in}
 use Rattle.mp_theorytext.specs.Values.{in_32_bits, each_value, pattern_of, bound_of}
 use Rattle.mp_theorytext.specs.Statics.{node_faults, bound_node_faults, raw_size_of, raw_bound_size_of}

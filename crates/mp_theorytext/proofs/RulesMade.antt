@@ -17,7 +17,7 @@ use Rattle.mp_theory.specs.Tables.{has_name, refusal_by, refusal_of, IsRefusal}
 use Rattle.mp_words.specs.declared.fail.TextWhy.TheVariants as why
 use Rattle.mp_words.specs.Faults.{fault_if}
 use Rattle.mp_words.proofs.NoFaults.{nil_parts, no_fault}
-use Rattle.mp_theorytext.specs.declared.raw.RawRule.{RawRule}
+use Rattle.mp_schematext.specs.declared.raw.RawRule.{RawRule}
 use Rattle.mp_theorytext.specs.Statics.{rule_faults, rules_faults}
 use Rattle.mp_theorytext.specs.Values.{schema_of, written_rule, rules_of}
 use Rattle.mp_words.proofs.Walks.{left_cons}

@@ -9,18 +9,18 @@ use Rattle.mp_schema.specs.Limits.{pattern_size_of, pattern_size_of_bound, item_
 use Rattle.mp_schema.specs.Occurrences.{hole_in_param, holes_in, holes_in_bound, holes_in_item, holes_in_schema}
 use Rattle.mp_schema.proofs.Layers.{pattern_size_of-Var, pattern_size_of-Op, pattern_size_of-Meta, pattern_size_of_bound-is, holes_in-Var, holes_in-Op, holes_in-Meta, holes_in_bound-is}
 use Rattle.mp_words.specs.declared.raw.RawName.{RawName}
-use Rattle.mp_theorytext.specs.declared.raw.RawParamPat.{RawParamPat}
-use Rattle.mp_theorytext.specs.declared.raw.RawPatternBound.{RawPatternBound}
-use Rattle.mp_theorytext.specs.declared.raw.RawPattern.{RawPattern}
-use Rattle.mp_theorytext.specs.declared.raw.RawPattern as raw
-use Rattle.mp_theorytext.specs.declared.raw.RawItem.{RawItem}
-use Rattle.mp_theorytext.specs.declared.raw.RawItem.TheVariants as item
-use Rattle.mp_theorytext.specs.declared.raw.RawSchema.{RawSchema}
+use Rattle.mp_schematext.specs.declared.raw.RawParamPat.{RawParamPat}
+use Rattle.mp_schematext.specs.declared.raw.RawPatternBound.{RawPatternBound}
+use Rattle.mp_schematext.specs.declared.raw.RawPattern.{RawPattern}
+use Rattle.mp_schematext.specs.declared.raw.RawPattern as raw
+use Rattle.mp_schematext.specs.declared.raw.RawItem.{RawItem}
+use Rattle.mp_schematext.specs.declared.raw.RawItem.TheVariants as item
+use Rattle.mp_schematext.specs.declared.raw.RawSchema.{RawSchema}
 use Rattle.mp_theorytext.specs.Scopes.{names_in, env_past, env_behind}
 use Rattle.mp_theorytext.specs.Values.{each_value, pattern_of, bound_of, item_of, items_of, schema_of}
 use Rattle.mp_theorytext.specs.Uses.{hole_at, holes_in_param, raw_holes, raw_bound_holes, raw_item_holes, raw_schema_holes}
 use Rattle.mp_theorytext.specs.Statics.{raw_size_of, raw_bound_size_of, raw_item_size_of, raw_schema_size_of}
-use Rattle.mp_theorytext.proofs.RawInduction.{OfEachBody, OfEachArg, each_raw}
+use Rattle.mp_schematext.proofs.RawInduction.{OfEachBody, OfEachArg, each_raw}
 use Rattle.mp_theorytext.proofs.RawLayers.{pattern_of-Var, pattern_of-Op, pattern_of-Meta, bound_of-is, raw_size_of-Var, raw_size_of-Op, raw_size_of-Meta, raw_bound_size_of-is}
 use Rattle.mp_theorytext.proofs.HoleSteps.{raw_holes-Var, raw_holes-Op, raw_holes-Meta, raw_bound_holes-is}
 

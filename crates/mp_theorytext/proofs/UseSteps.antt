@@ -15,14 +15,14 @@ use Rattle.mp_words.specs.declared.fault.Fault.{Fault}
 use Rattle.mp_words.specs.Faults.{least_from}
 use Rattle.mp_words.proofs.Soonest.{least_from_append}
 use Rattle.mp_words.specs.declared.raw.RawName.{RawName}
-use Rattle.mp_theorytext.specs.declared.raw.RawPatternBound.{RawPatternBound}
-use Rattle.mp_theorytext.specs.declared.raw.RawParamPat.{RawParamPat}
-use Rattle.mp_theorytext.specs.declared.raw.RawPattern.{RawPattern, the_lemmas}
-use Rattle.mp_theorytext.specs.declared.raw.RawPattern as raw
-use Rattle.mp_theorytext.specs.declared.raw.RawItem.{RawItem}
-use Rattle.mp_theorytext.specs.declared.raw.RawItem.TheVariants as item
-use Rattle.mp_theorytext.specs.declared.raw.RawSchema.{RawSchema}
-use Rattle.mp_theorytext.specs.declared.raw.RawRule.{RawRule}
+use Rattle.mp_schematext.specs.declared.raw.RawPatternBound.{RawPatternBound}
+use Rattle.mp_schematext.specs.declared.raw.RawParamPat.{RawParamPat}
+use Rattle.mp_schematext.specs.declared.raw.RawPattern.{RawPattern, the_lemmas}
+use Rattle.mp_schematext.specs.declared.raw.RawPattern as raw
+use Rattle.mp_schematext.specs.declared.raw.RawItem.{RawItem}
+use Rattle.mp_schematext.specs.declared.raw.RawItem.TheVariants as item
+use Rattle.mp_schematext.specs.declared.raw.RawSchema.{RawSchema}
+use Rattle.mp_schematext.specs.declared.raw.RawRule.{RawRule}
 use Rattle.mp_theorytext.specs.declared.uses.First.{First}
 use Rattle.mp_theorytext.specs.Scopes.{contexts_behind}
 use Rattle.mp_theorytext.specs.Uses.{Use, Shown, shown, argument_of, uses_in, uses_in_bound, uses_in_item, uses_in_items, uses_in_schema, uses_in_rule, find_first, use_faults, uses_faults, firsts_with, firsts_after}

@@ -1,5 +1,3 @@
-pub mod Grammar
-pub mod Laws
 pub mod Places
 pub mod Reading
 pub mod Scopes

@@ -4,7 +4,7 @@ use Rattle.mp_theory.specs.declared.rule.Rule.{Rule}
 use Rattle.mp_words.specs.declared.fail.TextErr.{TextErr}
 use Rattle.mp_words.specs.declared.fail.TextFail.{TextFail}
 use Rattle.mp_words.specs.Texts.{IsText, IsFaulty, OneText, ReadsText}
-use Rattle.mp_theorytext.specs.Grammar.{IsTheory, StuckTheory}
+use Rattle.mp_schematext.specs.Grammar.{IsTheory, StuckTheory}
 use Rattle.mp_theorytext.specs.Statics.{theory_faults}
 use Rattle.mp_theorytext.specs.Values.{rules_of}
 
@@ -18,6 +18,7 @@ IsTheoryText = IsText IsTheory StuckTheory theory_faults rules_of
 abbrev pub IsTheoryFault : List (List ℕ) → List ℕ → TextErr → Type 0
 IsTheoryFault = IsFaulty IsTheory StuckTheory theory_faults rules_of
 
+-- the theory of a text, or its one fault, or want of memory; and the names behind the reading
 abbrev pub ReadsTheory : List (List ℕ) → List ℕ → Result (List Rule) TextFail → List (List ℕ) → Type 0
 ReadsTheory = ReadsText IsTheory StuckTheory theory_faults rules_of
 

@@ -3,8 +3,8 @@ use Rattle.std.specs.Prelude.{ℕ, ◌++◌, List, [], ◌∷◌, map, Option, N
 use Rattle.mp_logic.specs.declared.sym.Sym.{Sym}
 use Rattle.mp_termtext.specs.Statics.{level_of}
 use Rattle.mp_words.specs.declared.raw.RawName.{RawName}
-use Rattle.mp_theorytext.specs.declared.raw.RawItem.{RawItem}
-use Rattle.mp_theorytext.specs.declared.raw.RawItem.TheVariants as item
+use Rattle.mp_schematext.specs.declared.raw.RawItem.{RawItem}
+use Rattle.mp_schematext.specs.declared.raw.RawItem.TheVariants as item
 
 -- the level that a variable means where these names are bound: the place of the last one that is its name
 abbrev pub level_in : List Sym → Sym → Option ℕ

@@ -7,24 +7,26 @@ use Rattle.mp_words.specs.declared.fail.TextWhy.TheVariants as why
 use Rattle.mp_words.specs.declared.fault.Fault.{Fault}
 use Rattle.mp_words.specs.Faults.{fault_if, too_many}
 use Rattle.mp_termtext.specs.Statics.{names_of, deep, unless_bound, Checked, each_faults}
-use Rattle.mp_theorytext.specs.declared.raw.RawPatternBound.{RawPatternBound, RawPatternBound-F, fold-RawPatternBound}
-use Rattle.mp_theorytext.specs.declared.raw.RawPattern.{RawPattern, RawPattern-F}
-use Rattle.mp_theorytext.specs.declared.raw.RawPattern.TheOpen as layer
-use Rattle.mp_theorytext.specs.declared.raw.RawPattern.TheFolds.{fold-RawPattern}
-use Rattle.mp_theorytext.specs.declared.raw.RawItem.{RawItem}
-use Rattle.mp_theorytext.specs.declared.raw.RawItem.TheVariants as item
-use Rattle.mp_theorytext.specs.declared.raw.RawSchema.{RawSchema}
-use Rattle.mp_theorytext.specs.declared.raw.RawRule.{RawRule}
+use Rattle.mp_schematext.specs.declared.raw.RawPatternBound.{RawPatternBound, RawPatternBound-F, fold-RawPatternBound}
+use Rattle.mp_schematext.specs.declared.raw.RawPattern.{RawPattern, RawPattern-F}
+use Rattle.mp_schematext.specs.declared.raw.RawPattern.TheOpen as layer
+use Rattle.mp_schematext.specs.declared.raw.RawPattern.TheFolds.{fold-RawPattern}
+use Rattle.mp_schematext.specs.declared.raw.RawItem.{RawItem}
+use Rattle.mp_schematext.specs.declared.raw.RawItem.TheVariants as item
+use Rattle.mp_schematext.specs.declared.raw.RawSchema.{RawSchema}
+use Rattle.mp_schematext.specs.declared.raw.RawRule.{RawRule}
 use Rattle.mp_theorytext.specs.Scopes.{level_in, names_in, env_past, env_behind, contexts_past, contexts_behind}
 use Rattle.mp_theorytext.specs.Uses.{raw_schema_holes, hole_faults, uses_in_rule, uses_faults}
 
 -- ## Nodes
 
+-- the faults of one node, where those of the patterns in it are known
 abbrev pub node_step : RawPattern-F Checked Checked → Checked
 node_step (layer.Var name left) env depth = deep depth left ++ unless_bound left (level_in env name)
 node_step (layer.Op name params subs left) env depth = deep depth left ++ too_many (λ p. p.left) 16 params ++ each_faults subs env (depth + 1)
 node_step (layer.Meta name ctxs args left) env depth = deep depth left ++ each_faults args env (depth + 1)
 
+-- the faults of one subterm, where those of its body are known
 abbrev pub node_bound_step : RawPatternBound-F Checked Checked → Checked
 node_bound_step b env depth = too_many (λ b. b.left) 8 b.binders ++ b.body (env ++ names_of b.binders) depth
 
@@ -33,6 +35,7 @@ node_bound_step b env depth = too_many (λ b. b.left) 8 b.binders ++ b.body (env
 abbrev pub node_faults : RawPattern → Checked
 node_faults = fold-RawPattern Checked Checked node_step node_bound_step
 
+-- those of a subterm: its body is where its binders are bound too
 abbrev pub bound_node_faults : RawPatternBound → Checked
 bound_node_faults = fold-RawPatternBound Checked Checked node_step node_bound_step
 
@@ -43,11 +46,13 @@ item_node_faults (item.Hyp name pattern left) env = node_faults pattern env 1
 
 -- ## Sizes
 
+-- the size of one node, where those of the patterns in it are known
 abbrev pub raw_size_step : RawPattern-F ℕ ℕ → ℕ
 raw_size_step (layer.Var name left) = 1
 raw_size_step (layer.Op name params subs left) = 1 + sum subs
 raw_size_step (layer.Meta name ctxs args left) = 1 + sum args
 
+-- the size of one subterm is that of its body
 abbrev pub raw_size_bound_step : RawPatternBound-F ℕ ℕ → ℕ
 raw_size_bound_step b = b.body
 
@@ -55,6 +60,7 @@ raw_size_bound_step b = b.body
 abbrev pub raw_size_of : RawPattern → ℕ
 raw_size_of = fold-RawPattern ℕ ℕ raw_size_step raw_size_bound_step
 
+-- the size of a subterm is that of its body
 abbrev pub raw_bound_size_of : RawPatternBound → ℕ
 raw_bound_size_of = fold-RawPatternBound ℕ ℕ raw_size_step raw_size_bound_step
 
@@ -63,6 +69,7 @@ abbrev pub raw_item_size_of : RawItem → ℕ
 raw_item_size_of (item.Ctx name ctxs args left) = sum (map raw_size_of args)
 raw_item_size_of (item.Hyp name pattern left) = raw_size_of pattern
 
+-- the sizes of the items and of the conclusion, together
 abbrev pub raw_schema_size_of : RawSchema → ℕ
 raw_schema_size_of s = sum (map raw_item_size_of s.items) + raw_size_of s.concl
 
@@ -111,6 +118,7 @@ schema_faults final concl s =
     too_many item_left 200 s.items ++ items_faults final concl [] [] s.items ++ node_faults s.concl (env_behind s.items []) 1
     ++ fault_if (nat_lt 20000 (raw_schema_size_of s)) s.left why.TooBig
 
+-- the faults of premises, one after the other
 abbrev pub premises_faults : List Sym → List RawSchema → List Fault
 premises_faults concl ss = flat_map (schema_faults false concl) ss
 

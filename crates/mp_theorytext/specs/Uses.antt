@@ -10,15 +10,15 @@ use Rattle.mp_words.specs.declared.fail.TextWhy.TheVariants as why
 use Rattle.mp_words.specs.declared.fault.Fault.{Fault}
 use Rattle.mp_words.specs.Faults.{fault, fault_if, too_many}
 use Rattle.mp_words.specs.declared.raw.RawName.{RawName}
-use Rattle.mp_theorytext.specs.declared.raw.RawParamPat.{RawParamPat}
-use Rattle.mp_theorytext.specs.declared.raw.RawPatternBound.{RawPatternBound, RawPatternBound-F, fold-RawPatternBound}
-use Rattle.mp_theorytext.specs.declared.raw.RawPattern.{RawPattern, RawPattern-F}
-use Rattle.mp_theorytext.specs.declared.raw.RawPattern.TheOpen as layer
-use Rattle.mp_theorytext.specs.declared.raw.RawPattern.TheFolds.{fold-RawPattern}
-use Rattle.mp_theorytext.specs.declared.raw.RawItem.{RawItem}
-use Rattle.mp_theorytext.specs.declared.raw.RawItem.TheVariants as item
-use Rattle.mp_theorytext.specs.declared.raw.RawSchema.{RawSchema}
-use Rattle.mp_theorytext.specs.declared.raw.RawRule.{RawRule}
+use Rattle.mp_schematext.specs.declared.raw.RawParamPat.{RawParamPat}
+use Rattle.mp_schematext.specs.declared.raw.RawPatternBound.{RawPatternBound, RawPatternBound-F, fold-RawPatternBound}
+use Rattle.mp_schematext.specs.declared.raw.RawPattern.{RawPattern, RawPattern-F}
+use Rattle.mp_schematext.specs.declared.raw.RawPattern.TheOpen as layer
+use Rattle.mp_schematext.specs.declared.raw.RawPattern.TheFolds.{fold-RawPattern}
+use Rattle.mp_schematext.specs.declared.raw.RawItem.{RawItem}
+use Rattle.mp_schematext.specs.declared.raw.RawItem.TheVariants as item
+use Rattle.mp_schematext.specs.declared.raw.RawSchema.{RawSchema}
+use Rattle.mp_schematext.specs.declared.raw.RawRule.{RawRule}
 use Rattle.mp_theorytext.specs.declared.uses.First.{First}
 use Rattle.mp_theorytext.specs.Scopes.{names_in, contexts_past, contexts_behind}
 
@@ -49,6 +49,7 @@ pub record Shown : Type 0 where
   pub argument : Argument
   pub uses : Situated (List Use)
 
+-- what one node shows, where what the patterns in it show is known
 abbrev pub shown_step : RawPattern-F Shown (Situated (List Use)) → Shown
 shown_step (layer.Var name left) = record { argument = record { variable = Some name; left = left }; uses = λ known final. [] }
 shown_step (layer.Op name params subs left) = record {
@@ -68,12 +69,15 @@ shown_step (layer.Meta name ctxs args left) = record {
   } ∷ flat_map (λ (a : Shown). a.uses known final) args;
 }
 
+-- a subterm shows the uses in its body
 abbrev pub shown_bound_step : RawPatternBound-F Shown (Situated (List Use)) → Situated (List Use)
 shown_bound_step b = b.body.uses
 
+-- what a pattern shows
 abbrev pub shown : RawPattern → Shown
 shown = fold-RawPattern Shown (Situated (List Use)) shown_step shown_bound_step
 
+-- the uses in a subterm
 abbrev pub uses_in_bound : RawPatternBound → Situated (List Use)
 uses_in_bound = fold-RawPatternBound Shown (Situated (List Use)) shown_step shown_bound_step
 
@@ -99,10 +103,12 @@ uses_in_item (item.Ctx name ctxs args left) known final =
     } ∷ flat_map (λ p. uses_in p known final) args
 uses_in_item (item.Hyp name pattern left) known final = uses_in pattern known final
 
+-- those in items, each behind those before it
 abbrev pub uses_in_items : List RawItem → Situated (List Use)
 uses_in_items [] known final = []
 uses_in_items (i ∷ is) known final = uses_in_item i known final ++ uses_in_items is (contexts_past i known) final
 
+-- those in a schema; final says whether it is the conclusion of a rule
 abbrev pub uses_in_schema : Bool → RawSchema → List Use
 uses_in_schema final s = uses_in_items s.items [] final ++ uses_in s.concl (contexts_behind s.items []) final
 
@@ -118,10 +124,12 @@ list_faults known earlier [] = []
 list_faults known earlier (c ∷ cs) =
     fault_if (not (has known c.name)) c.left why.DanglingContext ++ fault_if (has earlier c.name) c.left why.TwiceContext ++ list_faults known (earlier ++ c.name ∷ []) cs
 
+-- NotAPattern, unless it is a variable that none of the earlier ones is
 abbrev pub unless_new : List Sym → ℕ → Option Sym → List Fault
 unless_new earlier left None = fault left why.NotAPattern
 unless_new earlier left (Some name) = fault_if (has earlier name) left why.NotAPattern
 
+-- the name, if there is one
 abbrev pub option_list : Option Sym → List Sym
 option_list None = []
 option_list (Some name) = name ∷ []
@@ -148,6 +156,7 @@ find_first (f ∷ fs) name = if nat_eq f.name.0 name.0 then Some f else find_fir
 abbrev pub is_like : First → First → Bool
 is_like f g = same_bool f.is_context g.is_context && same_names f.ctxs g.ctxs && nat_eq f.arity g.arity
 
+-- BadUse, unless the use is like the first one of its name, or there is no earlier one
 abbrev pub unless_like : Option First → Use → List Fault
 unless_like None u = []
 unless_like (Some f) u = fault_if (not (is_like f (first_of u))) u.left why.BadUse
@@ -167,12 +176,14 @@ abbrev pub uses_faults : List First → List Use → List Fault
 uses_faults firsts [] = []
 uses_faults firsts (u ∷ us) = use_faults firsts u ++ uses_faults (firsts_with firsts u) us
 
+-- the first uses of names behind uses, one after the other
 abbrev pub firsts_after : List First → List Use → List First
 firsts_after firsts [] = firsts
 firsts_after firsts (u ∷ us) = firsts_after (firsts_with firsts u) us
 
 -- ## Holes
 
+-- the hole, if the parameter is one; its place is one word behind the @
 abbrev pub hole_at : ℕ → ParamPat → List RawName
 hole_at left (Lit p) = []
 hole_at left (Hole name) = record { name = name; left = left - 1 } ∷ []
@@ -181,11 +192,13 @@ hole_at left (Hole name) = record { name = name; left = left - 1 } ∷ []
 abbrev pub holes_in_param : RawParamPat → List RawName
 holes_in_param p = hole_at p.left p.value
 
+-- the holes of one node, where those of the patterns in it are known
 abbrev pub raw_holes_step : RawPattern-F (List RawName) (List RawName) → List RawName
 raw_holes_step (layer.Var name left) = []
 raw_holes_step (layer.Op name params subs left) = flat_map holes_in_param params ++ flat_map (λ hs. hs) subs
 raw_holes_step (layer.Meta name ctxs args left) = flat_map (λ hs. hs) args
 
+-- the holes of one subterm are those of its body
 abbrev pub raw_holes_bound_step : RawPatternBound-F (List RawName) (List RawName) → List RawName
 raw_holes_bound_step b = b.body
 
@@ -193,13 +206,16 @@ raw_holes_bound_step b = b.body
 abbrev pub raw_holes : RawPattern → List RawName
 raw_holes = fold-RawPattern (List RawName) (List RawName) raw_holes_step raw_holes_bound_step
 
+-- the holes of a subterm
 abbrev pub raw_bound_holes : RawPatternBound → List RawName
 raw_bound_holes = fold-RawPatternBound (List RawName) (List RawName) raw_holes_step raw_holes_bound_step
 
+-- the holes of an item
 abbrev pub raw_item_holes : RawItem → List RawName
 raw_item_holes (item.Ctx name ctxs args left) = flat_map raw_holes args
 raw_item_holes (item.Hyp name pattern left) = raw_holes pattern
 
+-- the holes of a schema, in the order of the text
 abbrev pub raw_schema_holes : RawSchema → List RawName
 raw_schema_holes s = flat_map raw_item_holes s.items ++ raw_holes s.concl
 

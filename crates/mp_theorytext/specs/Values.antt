@@ -9,14 +9,14 @@ use Rattle.mp_schema.specs.declared.schema.Schema.{Schema}
 use Rattle.mp_theory.specs.declared.rule.Rule.{Rule}
 use Rattle.mp_theory.specs.Tables.{rule_of}
 use Rattle.mp_termtext.specs.Statics.{names_of}
-use Rattle.mp_theorytext.specs.declared.raw.RawPatternBound.{RawPatternBound, RawPatternBound-F, fold-RawPatternBound}
-use Rattle.mp_theorytext.specs.declared.raw.RawPattern.{RawPattern, RawPattern-F}
-use Rattle.mp_theorytext.specs.declared.raw.RawPattern.TheOpen as layer
-use Rattle.mp_theorytext.specs.declared.raw.RawPattern.TheFolds.{fold-RawPattern}
-use Rattle.mp_theorytext.specs.declared.raw.RawItem.{RawItem}
-use Rattle.mp_theorytext.specs.declared.raw.RawItem.TheVariants as item
-use Rattle.mp_theorytext.specs.declared.raw.RawSchema.{RawSchema}
-use Rattle.mp_theorytext.specs.declared.raw.RawRule.{RawRule}
+use Rattle.mp_schematext.specs.declared.raw.RawPatternBound.{RawPatternBound, RawPatternBound-F, fold-RawPatternBound}
+use Rattle.mp_schematext.specs.declared.raw.RawPattern.{RawPattern, RawPattern-F}
+use Rattle.mp_schematext.specs.declared.raw.RawPattern.TheOpen as layer
+use Rattle.mp_schematext.specs.declared.raw.RawPattern.TheFolds.{fold-RawPattern}
+use Rattle.mp_schematext.specs.declared.raw.RawItem.{RawItem}
+use Rattle.mp_schematext.specs.declared.raw.RawItem.TheVariants as item
+use Rattle.mp_schematext.specs.declared.raw.RawSchema.{RawSchema}
+use Rattle.mp_schematext.specs.declared.raw.RawRule.{RawRule}
 use Rattle.mp_theorytext.specs.Scopes.{level_in, names_in, env_past, env_behind}
 
 -- numbers of 32 bits: a greater one is counted as the greatest, and no rule that keeps the static rules has one
@@ -27,15 +27,18 @@ in_32_bits n = min n 4294967295
 abbrev pub Valued : Type 0 → Type 0
 Valued X = List Sym → X
 
+-- the value of each of them, where the same names are bound
 abbrev pub each_value : {X : Type 0} → List (Valued X) → Valued (List X)
 each_value [] env = []
 each_value (x ∷ xs) env = x env ∷ each_value xs env
 
+-- the pattern of one node, where those of the patterns in it are known
 abbrev pub value_step : RawPattern-F (Valued Pattern) (Valued PBound) → Valued Pattern
 value_step (layer.Var name left) env = Var (in_32_bits (unwrap_or (level_in env name) 0))
 value_step (layer.Op name params subs left) env = Op name (map (λ p. p.value) params) (each_value subs env)
 value_step (layer.Meta name ctxs args left) env = Meta name (names_in ctxs) (each_value args env)
 
+-- the subterm, where the pattern of its body is known: its binders are bound in it
 abbrev pub value_bound_step : RawPatternBound-F (Valued Pattern) (Valued PBound) → Valued PBound
 value_bound_step b env = record { binders = in_32_bits (length b.binders); body = b.body (env ++ names_of b.binders) }
 

@@ -5,10 +5,10 @@ ghost use Rattle.mp_words.specs.Faults.{least_from};
 ghost use Rattle.mp_theorytext.specs.Scopes.{names_in};
 ghost use Rattle.mp_theorytext.specs.Uses.{hole_faults, holes_in_param, raw_holes, raw_bound_holes, raw_item_holes, raw_schema_holes};
 
-use crate::raw::{RawItem, RawParamPat, RawPattern, RawPatternBound, RawSchema};
 use mp_logic::{List, NoMemory};
 use mp_names::NameSet;
 use mp_schema::ParamPat;
+use mp_schematext::{RawItem, RawParamPat, RawPattern, RawPatternBound, RawSchema};
 use mp_words::{Fault, RawName, TextWhy, sooner_of};
 use std::alloc::Global;
 

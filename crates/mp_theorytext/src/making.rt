@@ -3,9 +3,9 @@ ghost use Rattle.mp_theory.specs.Tables.{has_name};
 ghost use Rattle.mp_theorytext.specs.Statics.{rule_faults, theory_faults};
 ghost use Rattle.mp_theorytext.specs.Values.{written_rule, rules_of};
 
-use crate::raw::RawRule;
 use crate::value::{build_schema, build_schemata};
 use mp_logic::{List, NoMemory};
+use mp_schematext::RawRule;
 use mp_theory::{Theory, TheoryErr};
 use std::alloc::Global;
 

@@ -4,8 +4,8 @@ ghost use Rattle.mp_termtext.specs.Statics.{deep, each_faults, unless_bound};
 ghost use Rattle.mp_theorytext.specs.Scopes.{level_in};
 ghost use Rattle.mp_theorytext.specs.Statics.{bound_node_faults, node_faults};
 
-use crate::raw::{RawPattern, RawPatternBound};
 use mp_logic::{NoMemory, Sym};
+use mp_schematext::{RawPattern, RawPatternBound};
 use mp_termtext::{level_of, push_names};
 use mp_words::{Fault, TextWhy, behind, sooner_of};
 

@@ -3,9 +3,9 @@ ghost use Rattle.mp_names.specs.Table.{Extends};
 ghost use Rattle.mp_theorytext.specs.Reading.{ReadsTheory};
 
 use crate::making::build_theory;
-use crate::rule::parse_theory;
 use crate::statics::theory_fault;
 use mp_names::Names;
+use mp_schematext::parse_theory;
 use mp_theory::Theory;
 use mp_words::{TextFail, lex_text};
 use std::alloc::Global;

@@ -2,7 +2,7 @@ ghost use Rattle.std.specs.Prelude.{◌≡◌, map, sum};
 ghost use Rattle.mp_logic.specs.Trees.{counted};
 ghost use Rattle.mp_theorytext.specs.Statics.{raw_size_of, raw_bound_size_of, raw_item_size_of, raw_schema_size_of};
 
-use crate::raw::{RawItem, RawPattern, RawPatternBound, RawSchema};
+use mp_schematext::{RawItem, RawPattern, RawPatternBound, RawSchema};
 
 /// The number of variables, operators and second-order variables of a schema. The count stops at `2^64 - 1`.
 pub(crate) fn schema_size(raw: &RawSchema) -> u64

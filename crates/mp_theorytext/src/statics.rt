@@ -10,12 +10,12 @@ ghost use Rattle.mp_theorytext.specs.Uses.{firsts_after, hole_faults, raw_schema
 
 use crate::holes::{check_holes, gather_schema, gather_schemata};
 use crate::nodes::{check_argument_nodes, check_nodes};
-use crate::raw::{RawItem, RawRule, RawSchema};
 use crate::scope::has_name;
 use crate::size::schema_size;
 use crate::uses::{Firsts, Place, check_argument_uses, check_use, check_uses};
 use mp_logic::{List, NoMemory, Sym};
 use mp_names::NameSet;
+use mp_schematext::{RawItem, RawRule, RawSchema};
 use mp_words::{Fault, RawName, TextWhy, behind, sooner_of};
 use std::alloc::Global;
 

@@ -9,11 +9,11 @@ ghost use Rattle.mp_theorytext.specs.Scopes.{names_in};
 ghost use Rattle.mp_theorytext.specs.Places.{use_at};
 ghost use Rattle.mp_theorytext.specs.Uses.{argument_of, argument_faults, variable_name, unless_new, list_faults, find_first, first_of, firsts_after, firsts_with, is_like, unless_like, use_faults, uses_faults, uses_in, uses_in_bound, shown};
 
-use crate::raw::{RawPattern, RawPatternBound};
 use crate::scope::{has_name, has_raw_name};
 use crate::value::copy_names;
 use mp_logic::{List, NoMemory, Sym};
 use mp_names::NameSet;
+use mp_schematext::{RawPattern, RawPatternBound};
 use mp_words::{Fault, RawName, TextWhy, behind, sooner_of};
 use std::alloc::Global;
 use std::marker::Model;

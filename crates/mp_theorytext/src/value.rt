@@ -2,9 +2,9 @@ ghost use Rattle.std.specs.Prelude.{◌≡◌, ◌++◌, ◌∷◌, [], IfOk, On
 ghost use Rattle.mp_theorytext.specs.Scopes.{level_in, names_in, env_past, env_behind};
 ghost use Rattle.mp_theorytext.specs.Values.{in_32_bits, each_value, pattern_of, bound_of, item_of, items_of, schema_of};
 
-use crate::raw::{RawItem, RawParamPat, RawPattern, RawPatternBound, RawSchema};
 use mp_logic::{List, NoMemory, Sym};
 use mp_schema::{Item, PBound, ParamPat, Pattern, Schema};
+use mp_schematext::{RawItem, RawParamPat, RawPattern, RawPatternBound, RawSchema};
 use mp_termtext::{level_of, push_names};
 use mp_words::RawName;
 use std::alloc::Global;

@@ -1,5 +1,5 @@
 use Rattle.std.proofs.Common.{rules, sym, ◌∙◌}
-use Rattle.mp_theorytext.specs.Grammar.{IsTheory, StuckTheory}
+use Rattle.mp_schematext.specs.Grammar.{IsTheory, StuckTheory}
 use Rattle.mp_theorytext.specs.Statics.{theory_faults}
 use Rattle.mp_theorytext.specs.Values.{rules_of}
 use Rattle.mp_words.proofs.Answering.{broken_text, lexical_text, none_least, stuck_text, text_is}

@@ -1,13 +1,12 @@
 ghost use Rattle.std.specs.Prelude.{◌<◌, ◌≤◌, [], length, IfOk};
 ghost use Rattle.mp_words.specs.Parts.{Reads};
-ghost use Rattle.mp_theorytext.specs.Grammar.{IsHypothesis, StuckHypothesis, IsContext, StuckContext, IsItem, StuckItem, IsSchema, StuckSchema, IsRuleName, StuckRuleName, IsRule, StuckRule, IsTheory, StuckTheory};
+ghost use Rattle.mp_schematext.specs.Grammar.{IsHypothesis, StuckHypothesis, IsContext, StuckContext, IsItem, StuckItem, IsSchema, StuckSchema, IsRule, StuckRule, IsTheory, StuckTheory};
 
 use crate::pattern::{Context, parse_arguments, parse_contexts, parse_pattern};
 use crate::raw::{RawItem, RawPattern, RawRule, RawSchema};
 use mp_logic::{List, Sym};
 use mp_words::{
-    Keyword, Mark, RawName, ReadFail, Reader, Word, keyword, listed, many, mark, name, name_at,
-    stuck,
+    Keyword, Mark, RawName, ReadFail, Reader, Word, listed, many, mark, name, name_behind, stuck,
 };
 use std::alloc::Global;
 
@@ -104,20 +103,6 @@ impl Reader for RawSchema {
     }
 }
 
-/// Reads `rule` and a name.
-fn parse_rule_name(words: &[Word]) -> Result<(RawName, &[Word]), ReadFail>
-    ensures reads { Reads (λ x. (x.0, x.1.now)) IsRuleName StuckRuleName words.now result }
-    ensures shorter { IfOk result (λ x. length x.1.now < length words.now) }
-{
-    let Some(at) = keyword(words, Keyword::Rule) else {
-        return Err(stuck(words));
-    };
-    match name_at(at) {
-        Some(read) => Ok(read),
-        None => Err(stuck(at)),
-    }
-}
-
 impl Reader for RawRule {
     type Raw = RawRule;
 
@@ -127,7 +112,7 @@ impl Reader for RawRule {
 
     /// Reads `rule`, a name, a colon, the premises, `==>` and the conclusion.
     fn read(alloc: Global, words: &[Word]) -> Result<(RawRule, &[Word]), ReadFail> {
-        let (name, at) = parse_rule_name(words)?;
+        let (name, at) = name_behind(words, Keyword::Rule)?;
         let Some(at) = mark(at, Mark::Colon) else {
             return Err(stuck(at));
         };

@@ -2,12 +2,12 @@
 use Rattle.std.proofs.Common.{ℕ, List, [], ◌∷◌, map, sym, subst}
 use Rattle.mp_logic.specs.declared.sym.Sym.{Sym}
 use Rattle.mp_words.specs.declared.raw.RawName.{RawName}
-use Rattle.mp_theorytext.specs.declared.raw.RawParamPat.{RawParamPat}
-use Rattle.mp_theorytext.specs.declared.raw.RawPatternBound.{RawPatternBound, RawPatternBound-F}
-use Rattle.mp_theorytext.specs.declared.raw.RawPattern.{RawPattern, RawPattern-F, ind-RawPattern, roll-RawPattern, map-RawPattern}
-use Rattle.mp_theorytext.specs.declared.raw.RawPattern as raw
-use Rattle.mp_theorytext.specs.declared.raw.RawPattern.TheVariants.{rolls-Var, rolls-Op, rolls-Meta}
-use Rattle.mp_theorytext.specs.declared.raw.RawPattern.TheOpen as layer
+use Rattle.mp_schematext.specs.declared.raw.RawParamPat.{RawParamPat}
+use Rattle.mp_schematext.specs.declared.raw.RawPatternBound.{RawPatternBound, RawPatternBound-F}
+use Rattle.mp_schematext.specs.declared.raw.RawPattern.{RawPattern, RawPattern-F, ind-RawPattern, roll-RawPattern, map-RawPattern}
+use Rattle.mp_schematext.specs.declared.raw.RawPattern as raw
+use Rattle.mp_schematext.specs.declared.raw.RawPattern.TheVariants.{rolls-Var, rolls-Op, rolls-Meta}
+use Rattle.mp_schematext.specs.declared.raw.RawPattern.TheOpen as layer
 
 module _ (P : RawPattern → Type 0) where
   -- the fact of each body

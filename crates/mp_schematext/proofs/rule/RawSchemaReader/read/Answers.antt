@@ -1,7 +1,7 @@
 use Rattle.std.proofs.Common.{inr}
-use Rattle.mp_theorytext.specs.Grammar.{StuckPattern, StuckSchema}
+use Rattle.mp_schematext.specs.Grammar.{StuckPattern, StuckSchema}
 use Rattle.mp_words.proofs.Steps.{fails_on}
-use Rattle.mp_theorytext.proofs.rule.RawSchemaReader.read.Goals as goal
+use Rattle.mp_schematext.proofs.rule.RawSchemaReader.read.Goals as goal
 
 pub returns-in-Err-parse_pattern-clause-reads : goal.returns-in-Err-parse_pattern-clause-reads
 returns-in-Err-parse_pattern-clause-reads c =

@@ -1,6 +1,6 @@
 ghost use Rattle.std.specs.Prelude.{◌<◌, ◌≤◌, length, IfOk};
 ghost use Rattle.mp_words.specs.Parts.{IsCapAt, Lacks, Reads};
-ghost use Rattle.mp_theorytext.specs.Grammar.{IsParamPat, StuckParamPat, AreParamPats, StuckParamPats, AreContexts, StuckContexts, IsPattern, StuckPattern, AreArgs, StuckArgs, AreArguments, StuckArguments, AreSubs, StuckSubs, AreBounds, StuckBounds, IsBound, StuckBound};
+ghost use Rattle.mp_schematext.specs.Grammar.{IsParamPat, StuckParamPat, AreParamPats, StuckParamPats, AreContexts, StuckContexts, IsPattern, StuckPattern, AreArgs, StuckArgs, AreArguments, StuckArguments, AreSubs, StuckSubs, AreBounds, StuckBounds, IsBound, StuckBound};
 
 use crate::raw::{RawParamPat, RawPattern, RawPatternBound};
 use mp_logic::List;

@@ -1,10 +1,10 @@
 use Rattle.std.proofs.Common.{◌∷◌, [], List, refl, ap, sym, subst, length, arith}
-use Rattle.mp_theorytext.specs.declared.raw.RawPattern.{RawPattern}
-use Rattle.mp_theorytext.specs.declared.raw.RawPatternBound.{RawPatternBound}
-use Rattle.mp_theorytext.specs.Grammar.{AreArguments, AreArgs, AreSubs, AreBounds, StuckContexts, StuckParamPats, StuckPattern, StuckArguments, StuckArgs, StuckSubs, StuckBounds, StuckBound, variable, second_order, operator, no_arguments, some_arguments, last_arg, more_args, no_subs, some_subs, last_bound, more_bounds, bound, no_pattern, in_contexts, in_arguments, in_params, in_subs, in_brackets, in_arg, behind_arg, in_other_args, in_braces, in_bound, behind_bound, in_other_bounds, in_binders, in_body}
+use Rattle.mp_schematext.specs.declared.raw.RawPattern.{RawPattern}
+use Rattle.mp_schematext.specs.declared.raw.RawPatternBound.{RawPatternBound}
+use Rattle.mp_schematext.specs.Grammar.{AreArguments, AreArgs, AreSubs, AreBounds, StuckContexts, StuckParamPats, StuckPattern, StuckArguments, StuckArgs, StuckSubs, StuckBounds, StuckBound, variable, second_order, operator, no_arguments, some_arguments, last_arg, more_args, no_subs, some_subs, last_bound, more_bounds, bound, no_pattern, in_contexts, in_arguments, in_params, in_subs, in_brackets, in_arg, behind_arg, in_other_args, in_braces, in_bound, behind_bound, in_other_bounds, in_binders, in_body}
 use Rattle.mp_termtext.specs.Grammar.{StuckBinders}
 use Rattle.mp_words.proofs.Steps.{fails_on, reads_on_front, stuck_at, goes_next}
-use Rattle.mp_theorytext.proofs.pattern.+parsing.Goals as goal
+use Rattle.mp_schematext.proofs.pattern.+parsing.Goals as goal
 
 pub parse_pattern-returns-in-Some-clause-reads : goal.parse_pattern-returns-in-Some-clause-reads
 parse_pattern-returns-in-Some-clause-reads t c = variable _ c.args.words.now c.in-Some.rest.now c.in-Some.name c.in-Some.field-0-1 refl c.in-Some.ensures

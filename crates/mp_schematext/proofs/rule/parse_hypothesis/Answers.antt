@@ -1,7 +1,7 @@
 use Rattle.std.proofs.Common.{inl, inr, refl}
-use Rattle.mp_theorytext.specs.Grammar.{StuckPattern, StuckHypothesis}
+use Rattle.mp_schematext.specs.Grammar.{StuckPattern, StuckHypothesis}
 use Rattle.mp_words.proofs.Steps.{fails_on, stuck_at}
-use Rattle.mp_theorytext.proofs.rule.parse_hypothesis.Goals as goal
+use Rattle.mp_schematext.proofs.rule.parse_hypothesis.Goals as goal
 
 pub returns-in_default-mark-clause-reads : goal.returns-in_default-mark-clause-reads
 returns-in_default-mark-clause-reads c =

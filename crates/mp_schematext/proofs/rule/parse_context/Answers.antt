@@ -1,7 +1,7 @@
 use Rattle.std.proofs.Common.{inl, inr, refl, rules}
-use Rattle.mp_theorytext.specs.Grammar.{IsContext, StuckContexts, StuckArguments, StuckContext}
+use Rattle.mp_schematext.specs.Grammar.{IsContext, StuckContexts, StuckArguments, StuckContext}
 use Rattle.mp_words.proofs.Steps.{failed_on, stuck_at}
-use Rattle.mp_theorytext.proofs.rule.parse_context.Goals as goal
+use Rattle.mp_schematext.proofs.rule.parse_context.Goals as goal
 
 pub returns-in_err-ctxs-clause-reads : goal.returns-in_err-ctxs-clause-reads
 returns-in_err-ctxs-clause-reads c =

@@ -1,9 +1,9 @@
 use Rattle.std.proofs.Common.{◌++◌, ◌*◌, ◌+◌, ◌≤◌, List, length}
 use Rattle.mp_words.specs.declared.word.Word.{Word}
-use Rattle.mp_theorytext.specs.declared.raw.RawPattern.{RawPattern}
-use Rattle.mp_theorytext.specs.declared.raw.RawPatternBound.{RawPatternBound}
-use Rattle.mp_theorytext.specs.Grammar.{AreArgs, StuckArgs, AreBounds, StuckBounds}
-use Rattle.mp_theorytext.proofs.pattern.+parsing.Given as goal
+use Rattle.mp_schematext.specs.declared.raw.RawPattern.{RawPattern}
+use Rattle.mp_schematext.specs.declared.raw.RawPatternBound.{RawPatternBound}
+use Rattle.mp_schematext.specs.Grammar.{AreArgs, StuckArgs, AreBounds, StuckBounds}
+use Rattle.mp_schematext.proofs.pattern.+parsing.Given as goal
 
 abbrev pub decreases-parse_pattern : goal.decreases-parse_pattern
 decreases-parse_pattern l = 3 * length l.words.now

@@ -1,7 +1,7 @@
 use Rattle.std.proofs.Common.{refl, inl, inr, rules}
-use Rattle.mp_theorytext.specs.Grammar.{IsRule, StuckRule, StuckPremises, StuckSchema}
+use Rattle.mp_schematext.specs.Grammar.{IsRule, StuckRule, StuckPremises, StuckSchema}
 use Rattle.mp_words.proofs.Steps.{failed_on, stuck_at}
-use Rattle.mp_theorytext.proofs.rule.RawRuleReader.read.Goals as goal
+use Rattle.mp_schematext.proofs.rule.RawRuleReader.read.Goals as goal
 
 pub returns-in_default-clause-reads : goal.returns-in_default-clause-reads
 returns-in_default-clause-reads c =

@@ -8,16 +8,16 @@ use Rattle.mp_schema.specs.declared.pattern.ParamPat.TheVariants.{Lit, Hole}
 use Rattle.mp_words.specs.declared.word.Word.{Word}
 use Rattle.mp_words.specs.declared.word.Mark.TheVariants as mark
 use Rattle.mp_words.specs.declared.word.Keyword.TheVariants as keyword
-use Rattle.mp_words.specs.Parts.{Lacks, Ended, StuckEnded, IsNameAt, IsCapAt, Both, StuckBoth, After, StuckAfter, StuckOptional, Separated, StuckSeparated, IsMark, IsWord, IsName, IsCapVar, HasOne, AreApart, HasOneStop, OneReading}
+use Rattle.mp_words.specs.Parts.{Lacks, Ended, StuckEnded, IsCapAt, Both, StuckBoth, After, StuckAfter, StuckOptional, Separated, StuckSeparated, IsMark, IsName, IsNameBehind, StuckNameBehind, IsCapVar, HasOne, AreApart, HasOneStop, OneReading}
 use Rattle.mp_termtext.specs.Grammar.{IsVariable, IsParamWord}
 use Rattle.mp_termtext.proofs.OneTerm.{one_binders}
-use Rattle.mp_words.proofs.Combine.{one_mark, one_word, two_marks, one_name, one_name_at, one_cap_at, one_cap_var, one_placed, one_ended, one_both, one_after, one_optional, one_many, one_separated, one_listed}
+use Rattle.mp_words.proofs.Combine.{one_mark, two_marks, one_name, one_name_behind, one_cap_at, one_cap_var, one_placed, one_ended, one_both, one_after, one_optional, one_many, one_separated, one_listed}
 use Rattle.mp_words.specs.declared.raw.RawName.{RawName}
-use Rattle.mp_theorytext.specs.declared.raw.RawPatternBound.{RawPatternBound}
-use Rattle.mp_theorytext.specs.declared.raw.RawPattern.{RawPattern, Var, Op, Meta}
-use Rattle.mp_theorytext.specs.declared.raw.RawItem.TheVariants as item
-use Rattle.mp_theorytext.specs.declared.raw.RawSchema.{RawSchema}
-use Rattle.mp_theorytext.specs.Grammar.{IsParamPatWord, IsParamPat, StuckParamPat, AreParamPats, StuckParamPats, AreContexts, StuckContexts, IsPattern, AreArguments, AreArgs, AreSubs, AreBounds, IsBound, StuckPattern, StuckArguments, StuckArgs, StuckSubs, StuckBounds, StuckBound, variable, second_order, operator, no_arguments, some_arguments, last_arg, more_args, no_subs, some_subs, last_bound, more_bounds, bound, no_pattern, in_contexts, in_arguments, in_params, in_subs, in_brackets, in_arg, behind_arg, in_other_args, in_braces, in_bound, behind_bound, in_other_bounds, in_binders, in_body, IsContext, StuckContext, IsHypothesis, StuckHypothesis, IsItem, StuckItem, AreItems, StuckItems, IsSchema, StuckSchema, ArePremises, StuckPremises, IsRuleName, StuckRuleName, IsRule, StuckRule, IsTheory, StuckTheory}
+use Rattle.mp_schematext.specs.declared.raw.RawPatternBound.{RawPatternBound}
+use Rattle.mp_schematext.specs.declared.raw.RawPattern.{RawPattern, Var, Op, Meta}
+use Rattle.mp_schematext.specs.declared.raw.RawItem.TheVariants as item
+use Rattle.mp_schematext.specs.declared.raw.RawSchema.{RawSchema}
+use Rattle.mp_schematext.specs.Grammar.{IsParamPatWord, IsParamPat, StuckParamPat, AreParamPats, StuckParamPats, AreContexts, StuckContexts, IsPattern, AreArguments, AreArgs, AreSubs, AreBounds, IsBound, StuckPattern, StuckArguments, StuckArgs, StuckSubs, StuckBounds, StuckBound, variable, second_order, operator, no_arguments, some_arguments, last_arg, more_args, no_subs, some_subs, last_bound, more_bounds, bound, no_pattern, in_contexts, in_arguments, in_params, in_subs, in_brackets, in_arg, behind_arg, in_other_args, in_braces, in_bound, behind_bound, in_other_bounds, in_binders, in_body, IsContext, StuckContext, IsHypothesis, StuckHypothesis, IsItem, StuckItem, AreItems, StuckItems, IsSchema, StuckSchema, ArePremises, StuckPremises, IsRule, StuckRule, IsTheory, StuckTheory}
 
 variable_has_one : HasOne IsVariable
 variable_has_one v w ts r s h k = let a : v.0 ≡ w.0 = cc in let b : v.1 ≡ w.1 = cc in let c : r ≡ s = cc in ((λ i. (a i, b i)), c)
@@ -372,15 +372,12 @@ one_schema =
 one_premises : OneReading ArePremises StuckPremises
 one_premises = one_listed IsSchema StuckSchema one_schema (IsMark mark.Comma) (IsMark mark.Yields) (one_mark mark.Comma) (one_mark mark.Yields)
 
-one_rule_name : OneReading IsRuleName StuckRuleName
-one_rule_name = one_after (IsWord keyword.Rule) IsNameAt (Lacks IsNameAt) (one_word keyword.Rule) one_name_at
-
 abbrev Tail : RawName × (List RawSchema × RawSchema) → List Word → List Word → Type 0
-Tail = Both IsRuleName (After (IsMark mark.Colon) (Both ArePremises IsSchema))
+Tail = Both (IsNameBehind keyword.Rule) (After (IsMark mark.Colon) (Both ArePremises IsSchema))
 
 one_tail : OneReading Tail StuckRule
 one_tail =
-    one_both IsRuleName (After (IsMark mark.Colon) (Both ArePremises IsSchema)) StuckRuleName (StuckAfter (IsMark mark.Colon) (StuckBoth ArePremises StuckPremises StuckSchema)) one_rule_name
+    one_both (IsNameBehind keyword.Rule) (After (IsMark mark.Colon) (Both ArePremises IsSchema)) (StuckNameBehind keyword.Rule) (StuckAfter (IsMark mark.Colon) (StuckBoth ArePremises StuckPremises StuckSchema)) (one_name_behind keyword.Rule)
     (one_after (IsMark mark.Colon) (Both ArePremises IsSchema) (StuckBoth ArePremises StuckPremises StuckSchema) (one_mark mark.Colon)
     (one_both ArePremises IsSchema StuckPremises StuckSchema one_premises one_schema))
 

@@ -11,16 +11,17 @@ use Rattle.mp_words.specs.declared.word.Word.{Word}
 use Rattle.mp_words.specs.declared.word.Mark.TheVariants as mark
 use Rattle.mp_words.specs.declared.word.Keyword.TheVariants as keyword
 use Rattle.mp_words.specs.declared.raw.RawName.{RawName}
-use Rattle.mp_theorytext.specs.declared.raw.RawParamPat.{RawParamPat}
-use Rattle.mp_theorytext.specs.declared.raw.RawPatternBound.{RawPatternBound}
-use Rattle.mp_theorytext.specs.declared.raw.RawPattern.{RawPattern, Var, Op, Meta}
-use Rattle.mp_theorytext.specs.declared.raw.RawItem.{RawItem}
-use Rattle.mp_theorytext.specs.declared.raw.RawItem.TheVariants as item
-use Rattle.mp_theorytext.specs.declared.raw.RawSchema.{RawSchema}
-use Rattle.mp_theorytext.specs.declared.raw.RawRule.{RawRule}
-use Rattle.mp_words.specs.Parts.{No, None_of, Lacks, IsMark, IsWord, IsName, IsNameAt, IsCapAt, IsCapVar, Ended, StuckEnded, Both, StuckBoth, After, StuckAfter, Optional, StuckOptional, Separated, StuckSeparated, Listed, StuckListed, Many, StuckMany}
+use Rattle.mp_schematext.specs.declared.raw.RawParamPat.{RawParamPat}
+use Rattle.mp_schematext.specs.declared.raw.RawPatternBound.{RawPatternBound}
+use Rattle.mp_schematext.specs.declared.raw.RawPattern.{RawPattern, Var, Op, Meta}
+use Rattle.mp_schematext.specs.declared.raw.RawItem.{RawItem}
+use Rattle.mp_schematext.specs.declared.raw.RawItem.TheVariants as item
+use Rattle.mp_schematext.specs.declared.raw.RawSchema.{RawSchema}
+use Rattle.mp_schematext.specs.declared.raw.RawRule.{RawRule}
+use Rattle.mp_words.specs.Parts.{No, None_of, Lacks, IsMark, IsName, IsNameBehind, StuckNameBehind, IsCapAt, IsCapVar, Ended, StuckEnded, Both, StuckBoth, After, StuckAfter, Optional, StuckOptional, Separated, StuckSeparated, Listed, StuckListed, Many, StuckMany}
 use Rattle.mp_termtext.specs.Grammar.{IsVariable, IsParamWord, AreBinders, StuckBinders}
 
+-- a number or a string, or @ and the name of the hole
 abbrev pub IsParamPatWord : ParamPat → List Word → List Word → Type 0
 IsParamPatWord (Lit p) ts rest = IsParamWord p ts rest
 IsParamPatWord (Hole name) ts rest = After (IsMark mark.At) IsName name ts rest
@@ -37,6 +38,7 @@ StuckParamPat ts rest = StuckOptional (IsMark mark.At) (Lacks IsName) ts rest �
 abbrev pub AreParamPats : List RawParamPat → List Word → List Word → Type 0
 AreParamPats = Optional (IsMark mark.OpenBracket) [] (Separated IsParamPat (IsMark mark.Semicolon) (IsMark mark.CloseBracket))
 
+-- a reading of parameters is stuck at the first of these words
 abbrev pub StuckParamPats : List Word → List Word → Type 0
 StuckParamPats = StuckOptional (IsMark mark.OpenBracket) (StuckSeparated IsParamPat StuckParamPat (IsMark mark.Semicolon) (IsMark mark.CloseBracket))
 
@@ -44,6 +46,7 @@ StuckParamPats = StuckOptional (IsMark mark.OpenBracket) (StuckSeparated IsParam
 abbrev pub AreContexts : List RawName → List Word → List Word → Type 0
 AreContexts = Optional (IsMark mark.Less) [] (Separated IsCapAt (IsMark mark.Semicolon) (IsMark mark.Greater))
 
+-- a reading of contexts is stuck at the first of these words
 abbrev pub StuckContexts : List Word → List Word → Type 0
 StuckContexts = StuckOptional (IsMark mark.Less) (StuckSeparated IsCapAt (Lacks IsCapAt) (IsMark mark.Semicolon) (IsMark mark.Greater))
 
@@ -87,22 +90,27 @@ mutual
     in_params : (ts rest : List Word) (n : Sym) (us : List Word) → IsName n ts us → StuckParamPats us rest → StuckPattern ts rest
     in_subs : (ts rest : List Word) (n : Sym) (ps : List RawParamPat) (us vs : List Word) → IsName n ts us → AreParamPats ps us vs → StuckSubs vs rest → StuckPattern ts rest
 
+  -- a reading of arguments in brackets is stuck at the first of these words
   pub data StuckArguments : List Word → List Word → Type 0 where
     in_brackets : (ts rest : List Word) (us : List Word) → IsMark mark.OpenBracket ts us → StuckArgs us rest → StuckArguments ts rest
 
+  -- a reading of arguments one after the other is stuck at the first of these words
   pub data StuckArgs : List Word → List Word → Type 0 where
     in_arg : (ts rest : List Word) → StuckPattern ts rest → StuckArgs ts rest
     behind_arg : (ts rest : List Word) (x : RawPattern) → IsPattern x ts rest → No (IsMark mark.CloseBracket) rest → No (IsMark mark.Semicolon) rest → StuckArgs ts rest
     in_other_args : (ts rest : List Word) (x : RawPattern) (us vs : List Word) → IsPattern x ts us → IsMark mark.Semicolon us vs → StuckArgs vs rest → StuckArgs ts rest
 
+  -- a reading of subterms in braces is stuck at the first of these words
   pub data StuckSubs : List Word → List Word → Type 0 where
     in_braces : (ts rest : List Word) (us : List Word) → IsMark mark.OpenBrace ts us → StuckBounds us rest → StuckSubs ts rest
 
+  -- a reading of subterms one after the other is stuck at the first of these words
   pub data StuckBounds : List Word → List Word → Type 0 where
     in_bound : (ts rest : List Word) → StuckBound ts rest → StuckBounds ts rest
     behind_bound : (ts rest : List Word) (k : RawPatternBound) → IsBound k ts rest → No (IsMark mark.CloseBrace) rest → No (IsMark mark.Semicolon) rest → StuckBounds ts rest
     in_other_bounds : (ts rest : List Word) (k : RawPatternBound) (us vs : List Word) → IsBound k ts us → IsMark mark.Semicolon us vs → StuckBounds vs rest → StuckBounds ts rest
 
+  -- a reading of a subterm is stuck at the first of these words
   pub data StuckBound : List Word → List Word → Type 0 where
     in_binders : (ts rest : List Word) → StuckBinders ts rest → StuckBound ts rest
     in_body : (ts rest : List Word) (bs : List RawName) (us : List Word) → AreBinders bs ts us → StuckPattern us rest → StuckBound ts rest
@@ -111,6 +119,7 @@ mutual
 abbrev pub IsContext : RawName × (List RawName × List RawPattern) → List Word → List Word → Type 0
 IsContext = Both IsCapAt (Both AreContexts (Ended AreArguments (IsMark mark.Greater)))
 
+-- a reading of a context behind its < is stuck at the first of these words
 abbrev pub StuckContext : List Word → List Word → Type 0
 StuckContext = StuckBoth IsCapAt (Lacks IsCapAt) (StuckBoth AreContexts StuckContexts (StuckEnded AreArguments StuckArguments (IsMark mark.Greater)))
 
@@ -118,6 +127,7 @@ StuckContext = StuckBoth IsCapAt (Lacks IsCapAt) (StuckBoth AreContexts StuckCon
 abbrev pub IsHypothesis : Sym × RawPattern → List Word → List Word → Type 0
 IsHypothesis = Both IsName (After (IsMark mark.Colon) IsPattern)
 
+-- a reading of a hypothesis is stuck at the first of these words
 abbrev pub StuckHypothesis : List Word → List Word → Type 0
 StuckHypothesis = StuckBoth IsName (Lacks IsName) (StuckAfter (IsMark mark.Colon) StuckPattern)
 
@@ -126,6 +136,7 @@ abbrev pub IsItem : RawItem → List Word → List Word → Type 0
 IsItem (item.Ctx name ctxs args left) ts rest = After (IsMark mark.Less) IsContext (name, (ctxs, args)) ts rest × (left ≡ length ts)
 IsItem (item.Hyp name pattern left) ts rest = IsHypothesis (name, pattern) ts rest × (left ≡ length ts)
 
+-- a reading of an item is stuck at the first of these words
 abbrev pub StuckItem : List Word → List Word → Type 0
 StuckItem ts rest = StuckOptional (IsMark mark.Less) StuckContext ts rest ⊎ (No (IsMark mark.Less) ts × StuckHypothesis ts rest)
 
@@ -133,6 +144,7 @@ StuckItem ts rest = StuckOptional (IsMark mark.Less) StuckContext ts rest ⊎ (N
 abbrev pub AreItems : List RawItem → List Word → List Word → Type 0
 AreItems = Listed IsItem (IsMark mark.Semicolon) (IsMark mark.Turnstile)
 
+-- a reading of items is stuck at the first of these words
 abbrev pub StuckItems : List Word → List Word → Type 0
 StuckItems = StuckListed IsItem StuckItem (IsMark mark.Semicolon) (IsMark mark.Turnstile)
 
@@ -140,6 +152,7 @@ StuckItems = StuckListed IsItem StuckItem (IsMark mark.Semicolon) (IsMark mark.T
 abbrev pub IsSchema : RawSchema → List Word → List Word → Type 0
 IsSchema s ts rest = Both AreItems IsPattern (s.items, s.concl) ts rest × (s.left ≡ length ts)
 
+-- a reading of a schema is stuck at the first of these words
 abbrev pub StuckSchema : List Word → List Word → Type 0
 StuckSchema = StuckBoth AreItems StuckItems StuckPattern
 
@@ -147,26 +160,22 @@ StuckSchema = StuckBoth AreItems StuckItems StuckPattern
 abbrev pub ArePremises : List RawSchema → List Word → List Word → Type 0
 ArePremises = Listed IsSchema (IsMark mark.Comma) (IsMark mark.Yields)
 
+-- a reading of premises is stuck at the first of these words
 abbrev pub StuckPremises : List Word → List Word → Type 0
 StuckPremises = StuckListed IsSchema StuckSchema (IsMark mark.Comma) (IsMark mark.Yields)
 
--- rule and a name
-abbrev pub IsRuleName : RawName → List Word → List Word → Type 0
-IsRuleName = After (IsWord keyword.Rule) IsNameAt
-
-abbrev pub StuckRuleName : List Word → List Word → Type 0
-StuckRuleName = StuckAfter (IsWord keyword.Rule) (Lacks IsNameAt)
-
 -- rule NAME : premises ==> conclusion
 abbrev pub IsRule : RawRule → List Word → List Word → Type 0
-IsRule r = Both IsRuleName (After (IsMark mark.Colon) (Both ArePremises IsSchema)) (r.name, (r.premises, r.concl))
+IsRule r = Both (IsNameBehind keyword.Rule) (After (IsMark mark.Colon) (Both ArePremises IsSchema)) (r.name, (r.premises, r.concl))
 
+-- a reading of a rule is stuck at the first of these words
 abbrev pub StuckRule : List Word → List Word → Type 0
-StuckRule = StuckBoth IsRuleName StuckRuleName (StuckAfter (IsMark mark.Colon) (StuckBoth ArePremises StuckPremises StuckSchema))
+StuckRule = StuckBoth (IsNameBehind keyword.Rule) (StuckNameBehind keyword.Rule) (StuckAfter (IsMark mark.Colon) (StuckBoth ArePremises StuckPremises StuckSchema))
 
 -- the rules, and nothing behind them
 abbrev pub IsTheory : List RawRule → List Word → List Word → Type 0
 IsTheory = Many IsRule
 
+-- a reading of rules is stuck at the first of these words
 abbrev pub StuckTheory : List Word → List Word → Type 0
 StuckTheory = StuckMany IsRule StuckRule

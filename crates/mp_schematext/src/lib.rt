@@ -1,0 +1,15 @@
+//! Patterns, schemata and rules as they are written: their grammar, and the readers over words.
+#![tactic(auto)]
+
+mod laws;
+mod pattern;
+mod raw;
+mod rule;
+
+pub use laws::one_reading;
+pub use pattern::{parse_arguments, parse_contexts, parse_pattern};
+pub use raw::{RawItem, RawParamPat, RawPattern, RawPatternBound, RawRule, RawSchema};
+pub use rule::parse_theory;
+
+#[cfg(test)]
+mod tests;
