@@ -10,6 +10,7 @@ use Rattle.mp_scripttext.specs.Reading.{ReadsScript}
 use Rattle.mp_drill.specs.ScheduleReading.{ReadsSchedule}
 use Rattle.mp_scripttext.specs.Entries.{EachGood}
 use Rattle.mp_drill.specs.ScheduleValues.{EachInRange}
+use Rattle.mp_drill.specs.Sections.{SameEvents}
 use Rattle.mp_report.specs.declared.refusal.FileKind.TheVariants.{Theory, Script, Schedule}
 use Rattle.mp_run.specs.declared.loading.Loaded.{Loaded}
 use Rattle.mp_run.specs.declared.stop.Stop.{Stop}
@@ -21,6 +22,7 @@ use Rattle.mp_run.specs.Loads.{IsLoad, LoadsSo}
 use Rattle.mp_run.specs.Runs.{ReadsFile}
 use Rattle.mp_run.specs.Stops.{GivesValue, StopsWith}
 use Rattle.mp_run.proofs.Files.{goes_on, stops_here, loads_on}
+use Rattle.mp_run.proofs.GoalBlocks.{kept_answer, kept_range}
 
 abbrev Files : Type 0
 Files = List ℕ → Option (List ℕ)
@@ -31,18 +33,18 @@ loaded_with names rules goals schedule = record { names = names; theory = rules;
 abbrev named : Goals → List Sym
 named goals = map (λ (e : Entry). e.name) goals.entries
 
-pub schedule_loaded : (files : Files) (schedule : Option (List ℕ)) (file : List ℕ) (rules : List Rule) (goals : Goals) (names after : Names) (asked : List Sym) (sections : List Section)
-    → schedule ≡ Some file → asked ≡ named goals → EachGood rules goals.entries → EachInRange sections
+pub schedule_loaded : (files : Files) (schedule : Option (List ℕ)) (file : List ℕ) (rules : List Rule) (goals : Goals) (names after : Names) (asked : List Sym) (sections kept : List Section)
+    → schedule ≡ Some file → asked ≡ named goals → EachGood rules goals.entries → EachInRange sections → SameEvents kept sections
     → (let said : Result (List Section) Stop = Ok sections in GivesValue (files file) Schedule (ReadsSchedule asked names) after said)
-    → IsLoad (ScheduleAnswers files schedule rules goals names) (loaded_with after rules goals (Some sections))
-schedule_loaded files schedule file rules goals names after asked sections e f good range gives =
-    let P : Option (List ℕ) → Type 0 = λ s. IsLoad (ScheduleAnswers files s rules goals names) (loaded_with after rules goals (Some sections)) in
+    → IsLoad (ScheduleAnswers files schedule rules goals names) (loaded_with after rules goals (Some kept))
+schedule_loaded files schedule file rules goals names after asked sections kept e f good range same gives =
+    let P : Option (List ℕ) → Type 0 = λ s. IsLoad (ScheduleAnswers files s rules goals names) (loaded_with after rules goals (Some kept)) in
     let Q : List Sym → Type 0 = λ g. (let said : Result (List Section) Stop = Ok sections in GivesValue (files file) Schedule (ReadsSchedule g names) after said) in
     let here : Q (named goals) = subst Q f gives in
     subst P (sym e) (record {
       goals = good;
-      range = range;
-      answers = λ answer a. goes_on Schedule (ReadsSchedule (named goals) names) (λ secs last. GoalsAnswer last rules (Some secs) goals.entries) (files file) after sections answer here a;
+      range = kept_range kept sections same range;
+      answers = λ answer a. goes_on Schedule (ReadsSchedule (named goals) names) (λ secs last. GoalsAnswer last rules (Some secs) goals.entries) (files file) after sections answer here (kept_answer after rules kept sections goals.entries answer same a);
     })
 
 pub schedule_stops : (files : Files) (schedule : Option (List ℕ)) (file : List ℕ) (rules : List Rule) (goals : Goals) (names after : Names) (asked : List Sym) (st : Stop)

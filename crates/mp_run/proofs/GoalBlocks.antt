@@ -1,12 +1,12 @@
 -- The blocks of goals, from the parts that make them.
-use Rattle.std.proofs.Common.{◌≡◌, ℕ, ◌++◌, nat_eq, Bool, true, false, List, [], ◌∷◌, Some, None, IsTrue, if◌then◌else◌, refl, ap, subst, ◌∙◌}
+use Rattle.std.proofs.Common.{◌≡◌, ℕ, ◌++◌, nat_eq, Bool, true, false, List, [], ◌∷◌, Some, None, IsTrue, if◌then◌else◌, refl, ap, subst, sym, ◌∙◌}
 use Rattle.mp_term.specs.declared.sequent.Sequent.{Sequent}
 use Rattle.mp_theory.specs.declared.rule.Rule.{Rule}
 use Rattle.mp_strategy.specs.declared.outcome.Outcome.{Outcome}
 use Rattle.mp_report.specs.Results.{result_text}
 use Rattle.mp_scripttext.specs.declared.script.Entry.{Entry}
 use Rattle.mp_run.specs.declared.block.Block.{Block}
-use Rattle.mp_run.specs.Answers.{Names}
+use Rattle.mp_run.specs.Answers.{Answer, Names}
 use Rattle.mp_logic.specs.declared.sym.Sym.{Sym}
 use Rattle.mp_drill.specs.declared.schedule.Event.{Event}
 use Rattle.mp_drill.specs.declared.schedule.Reply.{Reply}
@@ -15,7 +15,8 @@ use Rattle.mp_drill.specs.Trace.{IsTrace}
 use Rattle.mp_report.specs.Traces.{trace_text}
 use Rattle.mp_drill.specs.declared.schedule.Section.{Section}
 use Rattle.mp_drill.specs.ScheduleValues.{EachInRange}
-use Rattle.mp_run.specs.Goals.{goal_work, goal_outcome, goal_text, evaluate_in, events_of, is_closed, IsBlock}
+use Rattle.mp_drill.specs.Sections.{SameEvents, events_of}
+use Rattle.mp_run.specs.Goals.{goal_work, goal_outcome, goal_text, evaluate_in, is_closed, AreBlocks, GoalsAnswer, GoalsInRange, IsBlock, IsDrilled, answer_of}
 
 abbrev pub block_of : List ℕ → Bool → Block
 block_of text closed = record { text = text; closed = closed }
@@ -31,9 +32,20 @@ range_if true xs ys h k = h
 range_if false xs ys h k = k
 
 -- the events of a goal are in their ranges
-pub range_of : (sections : List Section) (name : Sym) → EachInRange sections → IsTrue (are_in_range (events_of sections name))
+range_of : (sections : List Section) (name : Sym) → EachInRange sections → IsTrue (are_in_range (events_of sections name))
 range_of [] name h = refl
 range_of (s ∷ ss) name h = range_if (nat_eq s.goal.0 name.0) s.events (events_of ss name) h.0 (range_of ss name h.1)
+
+pub kept_range : (kept sections : List Section) → SameEvents kept sections → EachInRange sections → GoalsInRange kept
+kept_range kept sections same h name = let P : List Event → Type 0 = λ es. IsTrue (are_in_range es) in subst P (sym (same name)) (range_of sections name h)
+
+-- sections that give each goal the same events have the same answers
+pub kept_answer : (names : Names) (rules : List Rule) (kept sections : List Section) (entries : List Entry) (answer : Answer)
+    → SameEvents kept sections → GoalsAnswer names rules (Some kept) entries answer → GoalsAnswer names rules (Some sections) entries answer
+kept_answer names rules kept sections entries answer same h =
+    let P : (Sym → List Event) → Type 0 = λ events. (bs : List Block) × AreBlocks (λ e b. IsDrilled names rules (events e.name) e b) entries bs × (answer ≡ answer_of bs) in
+    let is : events_of kept ≡ events_of sections = λ i name. same name i in
+    subst P is h
 
 pub drill_made : (names : Names) (rules : List Rule) (sections : List Section) (entry : Entry) (o : Outcome Sequent) (replies : List Reply) (events : List Event)
     (trace result text : List ℕ) (closed : Bool) → events ≡ events_of sections entry.name

@@ -13,10 +13,11 @@ use Rattle.mp_drill.specs.Laws.{SomeTrace, CanBeCompared}
 use Rattle.mp_report.specs.Traces.{trace_text}
 use Rattle.mp_scripttext.specs.declared.script.Entry.{Entry}
 use Rattle.mp_drill.specs.declared.schedule.Section.{Section}
+use Rattle.mp_drill.specs.Sections.{events_of}
 use Rattle.mp_run.specs.declared.block.Block.{Block}
 use Rattle.mp_run.specs.declared.status.Status.TheVariants as status
 use Rattle.mp_run.specs.Answers.{Names}
-use Rattle.mp_run.specs.Goals.{AreBlocks, IsBlock, evaluate_in, goal_work, goal_outcome, goal_text, events_of, is_closed}
+use Rattle.mp_run.specs.Goals.{AreBlocks, IsBlock, evaluate_in, goal_work, goal_outcome, goal_text, is_closed}
 use Rattle.mp_run.specs.Loads.{GoalsWrite}
 use Rattle.mp_run.specs.Runs.{joined}
 use Rattle.mp_run.proofs.SameWorks.{decide_work}

@@ -12,6 +12,7 @@ use Rattle.mp_words.specs.declared.fail.TextFail.TheVariants.{Bad}
 use Rattle.mp_scripttext.specs.declared.script.Entry.{Entry}
 use Rattle.mp_scripttext.specs.declared.script.Script.{Script as Goals}
 use Rattle.mp_drill.specs.declared.schedule.Section.{Section}
+use Rattle.mp_drill.specs.Sections.{events_of}
 use Rattle.mp_theorytext.specs.Reading.{ReadsTheory, OneTheoryText}
 use Rattle.mp_scripttext.specs.Reading.{ReadsScript, OneScriptText}
 use Rattle.mp_drill.specs.ScheduleReading.{ReadsSchedule, OneScheduleText}
@@ -34,7 +35,7 @@ use Rattle.mp_report.specs.declared.refusal.FileKind.TheVariants.{Theory, Script
 use Rattle.mp_run.specs.declared.status.Status.{Status}
 use Rattle.mp_run.specs.Answers.{Answer, Blocks, Refusal, Names, Reading, Says, FileThen}
 use Rattle.mp_run.specs.Commands.{Command}
-use Rattle.mp_run.specs.Goals.{goal_work, goal_outcome, goal_text, evaluate_in, events_of, is_closed, IsBlock, AreBlocks, answer_of, GoalsAnswer}
+use Rattle.mp_run.specs.Goals.{goal_work, goal_outcome, goal_text, evaluate_in, is_closed, IsBlock, AreBlocks, answer_of, GoalsAnswer}
 use Rattle.mp_run.specs.Headline.{Answers, ScriptAnswers, ScheduleAnswers, RunAnswers}
 use Rattle.mp_run.specs.Laws.{AreTold, OneAnswer, OneOutput}
 use Rattle.mp_run.specs.Runs.{Ends}

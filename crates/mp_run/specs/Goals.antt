@@ -1,5 +1,5 @@
 -- What is printed of the goals of a script.
-use Rattle.std.specs.Prelude.{◌≡◌, ℕ, ◌++◌, nat_eq, Bool, false, List, [], ◌∷◌, map, Option, Some, None, if◌then◌else◌, ⊤}
+use Rattle.std.specs.Prelude.{◌≡◌, ℕ, ◌++◌, nat_eq, Bool, false, List, [], ◌∷◌, map, Option, Some, None, IsTrue, ⊤}
 use Rattle.std.specs.List.{list_all}
 use Rattle.mp_logic.specs.declared.sym.Sym.{Sym}
 use Rattle.mp_logic.specs.Trees.{leaf_count_of}
@@ -13,6 +13,8 @@ use Rattle.mp_strategy.specs.Works.{work_of}
 use Rattle.mp_strategy.specs.Evaluation.{eval}
 use Rattle.mp_drill.specs.declared.schedule.Event.{Event}
 use Rattle.mp_drill.specs.declared.schedule.Reply.{Reply}
+use Rattle.mp_drill.specs.Ranges.{are_in_range}
+use Rattle.mp_drill.specs.Sections.{events_of}
 use Rattle.mp_drill.specs.Trace.{IsTrace}
 use Rattle.mp_scripttext.specs.declared.script.Entry.{Entry}
 use Rattle.mp_drill.specs.declared.schedule.Section.{Section}
@@ -42,21 +44,21 @@ goal_outcome rules entry = evaluate_in rules entry (goal_work entry)
 abbrev pub goal_text : Names → List Rule → Entry → List ℕ
 goal_text names rules entry = result_text names rules entry.name entry.justs (goal_outcome rules entry)
 
--- the events of the goal's section; none where it has none
-abbrev pub events_of : List Section → Sym → List Event
-events_of [] name = []
-events_of (s ∷ ss) name = if nat_eq s.goal.0 name.0 then s.events else events_of ss name
+-- the events of each goal are in their ranges
+abbrev pub GoalsInRange : List Section → Type 0
+GoalsInRange sections = (name : Sym) → IsTrue (are_in_range (events_of sections name))
+
+-- a goal's block where these events are drilled: the text of its outcome, behind the text of the replies to them
+abbrev pub IsDrilled : Names → List Rule → List Event → Entry → Block → Type 0
+IsDrilled names rules events entry b =
+    (replies : List Reply)
+    × IsTrace (evaluate_in rules entry) (goal_work entry) events replies (goal_outcome rules entry)
+    × (b ≡ record { text = trace_text names entry.name events replies ++ goal_text names rules entry; closed = is_closed (goal_outcome rules entry) })
 
 -- a goal's block: the text of its outcome; where a schedule is drilled, behind the text of the replies to its events
 abbrev pub IsBlock : Names → List Rule → Option (List Section) → Entry → Block → Type 0
 IsBlock names rules None entry b = b ≡ record { text = goal_text names rules entry; closed = is_closed (goal_outcome rules entry) }
-IsBlock names rules (Some sections) entry b =
-    (replies : List Reply)
-    × IsTrace (evaluate_in rules entry) (goal_work entry) (events_of sections entry.name) replies (goal_outcome rules entry)
-    × (b ≡ record {
-      text = trace_text names entry.name (events_of sections entry.name) replies ++ goal_text names rules entry;
-      closed = is_closed (goal_outcome rules entry);
-    })
+IsBlock names rules (Some sections) entry b = IsDrilled names rules (events_of sections entry.name) entry b
 
 -- a block for each goal, in order
 abbrev pub AreBlocks : (Entry → Block → Type 0) → List Entry → List Block → Type 0

@@ -3,7 +3,6 @@ use Rattle.std.specs.Prelude.{◌≡◌, ℕ, ◌++◌, true, false, List, map, 
 use Rattle.std.specs.List.{list_all}
 use Rattle.mp_drill.specs.declared.schedule.Section.{Section}
 use Rattle.mp_scripttext.specs.Entries.{EachGood}
-use Rattle.mp_drill.specs.ScheduleValues.{EachInRange}
 use Rattle.mp_run.specs.declared.loading.Loaded.{Loaded}
 use Rattle.mp_run.specs.declared.stop.Stop.{Stop}
 use Rattle.mp_run.specs.Answers.{Answer}
@@ -12,14 +11,14 @@ use Rattle.mp_report.specs.declared.refusal.FileKind.{FileKind}
 use Rattle.mp_run.specs.declared.status.Status.{Status}
 use Rattle.mp_run.specs.declared.status.Status.TheVariants as status
 use Rattle.mp_scripttext.specs.declared.script.Entry.{Entry}
-use Rattle.mp_run.specs.Goals.{GoalsAnswer, AreBlocks}
+use Rattle.mp_run.specs.Goals.{GoalsAnswer, GoalsInRange, AreBlocks}
 use Rattle.mp_run.specs.Runs.{joined}
 use Rattle.mp_run.specs.Stops.{StopsWith}
 
 -- the schedule's events are in their ranges, if there is one
 abbrev pub ScheduleInRange : Option (List Section) → Type 0
 ScheduleInRange None = ⊤
-ScheduleInRange (Some sections) = EachInRange sections
+ScheduleInRange (Some sections) = GoalsInRange sections
 
 -- the goals can be evaluated, and whatever answers them is the answer
 pub record IsLoad (IsAnswer : Answer → Type 0) (loaded : Loaded) : Type 0 where

@@ -1,12 +1,11 @@
-ghost use Rattle.std.specs.Prelude.{◌≡◌, [], Some, None, IfOk};
+ghost use Rattle.std.specs.Prelude.{◌≡◌, Some, None, IfOk};
 ghost use Rattle.mp_scripttext.specs.Entries.{IsGoodEntry};
-ghost use Rattle.mp_drill.specs.ScheduleValues.{EachInRange};
-ghost use Rattle.mp_run.specs.Goals.{IsBlock, events_of};
+ghost use Rattle.mp_run.specs.Goals.{GoalsInRange, IsBlock};
 ghost use Rattle.mp_run.specs.Goals.{is_closed as is_closed_of};
 
-use mp_drill::{Event, Section, drill};
+use mp_drill::{Sections, drill};
 use mp_eval::evaluate;
-use mp_logic::{List as Items, NoMemory, Sym, Text, leaf_count};
+use mp_logic::{List as Items, NoMemory, Text, leaf_count};
 use mp_names::Names;
 use mp_refiner::Refiner;
 use mp_report::{result_text, trace_text};
@@ -62,33 +61,16 @@ pub fn seq_block(
     })
 }
 
-/// The events of the goal's section, or these where it has none.
-fn events_in<'a>(
-    sections: &'a Items<Section>,
-    name: Sym,
-    none: &'a Items<Event>,
-) -> &'a Items<Event>
-    requires none { none.now ≡ [] }
-    ensures events { result.now ≡ events_of sections.now name }
-{
-    for section in sections.as_slice() {
-        if section.goal.0 == name.0 {
-            return &section.events;
-        }
-    }
-    none
-}
-
 /// The block of a goal whose schedule is drilled.
 pub fn drill_block(
     alloc: Global,
     names: &Names,
     theory: &Theory,
-    sections: &Items<Section>,
+    sections: &Sections,
     entry: Entry,
 ) -> Result<Block, NoMemory>
     requires good { IsGoodEntry theory.now entry }
-    requires range { EachInRange sections.now }
+    requires range { GoalsInRange sections.now }
     ensures { IfOk result (IsBlock names.now theory.now (Some sections.now) entry) }
 {
     let Entry {
@@ -101,8 +83,7 @@ pub fn drill_block(
     let refiner = Refiner::new(theory);
     let problem = Problem::new(&refiner, justs, tacs);
     let work = Work::of(&problem, TacId(0), fuel, goal);
-    let no_events = Items::new(alloc);
-    let events = events_in(sections, name, &no_events);
+    let events = sections.events(name);
     let (replies, outcome) = drill(alloc, &problem, work, events)?;
     let trace = trace_text(alloc, names, name, events, &replies)?;
     let result = result_text(alloc, names, theory, name, &problem.justs, &outcome)?;

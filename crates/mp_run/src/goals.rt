@@ -9,7 +9,7 @@ use crate::block::{Block, drill_block, seq_block};
 use crate::loading::Loaded;
 use crate::status::Status;
 use crate::waiting::Waiting;
-use mp_drill::{Section, some_trace};
+use mp_drill::{Sections, some_trace};
 use mp_logic::{List as Items, NoMemory};
 use mp_names::Names;
 use mp_ports::Sink;
@@ -23,7 +23,7 @@ fn block(
     alloc: Global,
     names: &Names,
     theory: &Theory,
-    schedule: &Option<Items<Section>>,
+    schedule: &Option<Sections>,
     entry: Entry,
 ) -> Result<Block, NoMemory>
     requires good { IsGoodEntry theory.now entry }
@@ -48,7 +48,7 @@ fn put_blocks<K: Sink>(
     alloc: Global,
     names: &Names,
     theory: &Theory,
-    schedule: &Option<Items<Section>>,
+    schedule: &Option<Sections>,
     entries: Items<Entry>,
     out: &mut K,
 ) -> Status

@@ -8,7 +8,7 @@ ghost use Rattle.mp_run.specs.Stops.{StopCause, command_seen, word_seen};
 use crate::command::Command;
 use crate::reading::{schedule_of, script_of, theory_of};
 use crate::stop::Stop;
-use mp_drill::Section;
+use mp_drill::Sections;
 use mp_logic::{List, NoMemory, Sym, Text};
 use mp_names::Names;
 use mp_ports::Shelf;
@@ -22,8 +22,8 @@ pub struct Loaded {
     pub names: Names,
     pub theory: Theory,
     pub script: Script,
-    /// The sections of the schedule, where one is drilled.
-    pub schedule: Option<List<Section>>,
+    /// The events of the goals, where a schedule is drilled.
+    pub schedule: Option<Sections>,
 }
 
 /// The names of the goals, in order.
@@ -67,12 +67,15 @@ fn with_schedule<H: Shelf>(
     };
     let mut names = names;
     match schedule_of(alloc, shelf, &mut names, &goals, file) {
-        Ok(sections) => Ok(Loaded {
-            names,
-            theory,
-            script,
-            schedule: Some(sections),
-        }),
+        Ok(sections) => match Sections::new(alloc, sections) {
+            Ok(sections) => Ok(Loaded {
+                names,
+                theory,
+                script,
+                schedule: Some(sections),
+            }),
+            Err(NoMemory) => Err(Stop::NoMemory),
+        },
         Err(stop) => Err(stop),
     }
 }

@@ -1,18 +1,18 @@
 use Rattle.std.proofs.Common.{sym, subst, List, IsTrue}
 use Rattle.mp_drill.specs.declared.schedule.Event.{Event}
 use Rattle.mp_drill.specs.Ranges.{are_in_range}
-use Rattle.mp_run.proofs.GoalBlocks.{drill_made, range_of, appended}
+use Rattle.mp_run.proofs.GoalBlocks.{drill_made, appended}
 use Rattle.mp_run.proofs.block.drill_block.Goals as goal
 
 pub drill-requires-clause-events : goal.drill-requires-clause-events
 drill-requires-clause-events c lifetimes =
     let P : List Event → Type 0 = λ es. IsTrue (are_in_range es) in
-    subst P (sym c.events_in-events.ensures.events) (range_of c.args.sections.now c.args.entry.name c.requires.range)
+    subst P (sym c.events-events.ensures) (c.requires.range c.args.entry.name)
 
 pub returns : goal.returns
 returns c =
-    drill_made c.args.names.now c.args.theory.now c.args.sections.now c.args.entry c.in_ok-replies.outcome c.in_ok-replies.replies c.events_in-events.result.now
-    c.in_ok-trace.trace c.in_ok-result.result c.from_vec.result c.is_closed.result c.events_in-events.ensures.events
+    drill_made c.args.names.now c.args.theory.now c.args.sections.now c.args.entry c.in_ok-replies.outcome c.in_ok-replies.replies c.events-events.result.now
+    c.in_ok-trace.trace c.in_ok-result.result c.from_vec.result c.is_closed.result c.events-events.ensures
     (rw (c.new-problem.ensures.logic, c.new-refiner.ensures, c.new-problem.ensures.justs, c.new-problem.ensures.tacs, c.of-work.ensures.value) at c.in_ok-replies.ensures.trace)
     (rw (c.new-problem.ensures.logic, c.new-refiner.ensures, c.new-problem.ensures.justs, c.new-problem.ensures.tacs, c.of-work.ensures.value) at c.in_ok-replies.ensures.outcome)
     c.in_ok-trace.ensures (rw c.new-problem.ensures.justs at c.in_ok-result.ensures)
