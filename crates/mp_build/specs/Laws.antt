@@ -65,6 +65,7 @@ pub record HasTameEntries (i : Inst) : Type 0 where
   pub many : All (λ (x : CtxVal). length x.hyps ≤ 200) i.ctxs
   pub kept : All (λ (x : CtxVal). All IsTameTerm x.hyps) i.ctxs
 
+-- an instance with tame entries is tame
 abbrev pub TameEntries : Type 0
 TameEntries = (i : Inst) → HasTameEntries i → IsTame (instance_of i)
 
@@ -88,5 +89,6 @@ PlainInstance =
     (before other : Ground) (v : Values) (p : Pattern) → IsTrue (lists_known [] p) → before [] ≡ other [] →
     (env : List Term) (m : ℕ) → inst_of before v p env m ≡ inst_of other v p env m
 
+-- values fit a pattern without lists of contexts over any contexts, if the ambient scope is the same
 abbrev pub PlainFits : Type 0
 PlainFits = (wide other : Wide) (v : Values) (p : Pattern) → IsTrue (lists_known [] p) → wide [] ≡ other [] → fits wide v p ≡ fits other v p

@@ -22,6 +22,7 @@ use Rattle.mp_build.specs.Sizes.{item_count}
 abbrev pub with_start : (Sym → ℕ) → Start → Sym → ℕ
 with_start pos s name = if nat_eq name.0 s.name.0 then s.level else pos name
 
+-- the level at which each context begins; 0 where it isn't there
 abbrev pub start_of : List Start → Sym → ℕ
 start_of starts = fold with_start (λ name. 0) starts
 

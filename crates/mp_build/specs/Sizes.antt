@@ -19,6 +19,7 @@ use Rattle.mp_schema.specs.Sequents.{Instance, wide_of}
 use Rattle.mp_build.specs.declared.error.BuildErr.{BuildErr}
 use Rattle.mp_build.specs.declared.error.BuildErr.TheVariants.{TooLarge, NoMemory}
 
+-- a bound body counts as its pattern
 abbrev pub pattern_body_step : PBound-F ℕ ℕ → ℕ
 pattern_body_step b = b.body
 

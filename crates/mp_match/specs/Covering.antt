@@ -15,6 +15,7 @@ use Rattle.mp_schema.specs.declared.schema.Schema.{Schema}
 use Rattle.mp_schema.specs.Instances.{all_pass}
 use Rattle.mp_schema.specs.Values.{find_meta, find_param, find_ctx}
 
+-- there is a value
 abbrev pub is_there : {X : Type 0} → Option X → Bool
 is_there None = false
 is_there (Some x) = true

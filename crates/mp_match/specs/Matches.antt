@@ -9,6 +9,7 @@ use Rattle.mp_match.specs.declared.place.Place.{Place}
 use Rattle.mp_match.specs.Matching.{found_in}
 use Rattle.mp_match.specs.Places.{ground_of, levels_at}
 
+-- nothing is found yet
 abbrev pub nothing_found : Found
 nothing_found = record { metas = []; params = [] }
 

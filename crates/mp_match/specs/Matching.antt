@@ -28,6 +28,7 @@ abbrev pub hole_found : Sym → Param → Found → Option Param → Option Foun
 hole_found name p found None = let x : ParamVal = record { name = name; value = p } in Some (record found { params = found.params ++ x ∷ [] })
 hole_found name p found (Some q) = if same_param q p then Some found else None
 
+-- a parameter that is written has to be this one
 abbrev pub param_found : ParamPat → Param → Found → Option Found
 param_found (Lit q) p found = if same_param q p then Some found else None
 param_found (Hole name) p found = hole_found name p found (find_param found.params name)
@@ -60,9 +61,11 @@ pub record Matcher : Type 0 where
   pub level : Option ℕ
   pub finds : List ℕ → ℕ → Term → Found → Option Found
 
+-- the same of a bound body
 pub record BoundMatcher : Type 0 where
   pub finds : List ℕ → ℕ → Bound → Found → Option Found
 
+-- what the bodies find, one after the other; there have to be as many of both
 abbrev pub all_found : List BoundMatcher → List ℕ → ℕ → List Bound → Found → Option Found
 all_found [] levels scope [] found = Some found
 all_found [] levels scope (x ∷ xs) found = None
@@ -80,6 +83,7 @@ abbrev pub argument : List ℕ → Option ℕ → ℕ
 argument levels level = slice_index_or levels (or_zero level) 0
 
 module _ (front : Ground) where
+  -- what one layer of a pattern is to a match, from what its parts are
   abbrev pub matcher_step : Pattern-F Matcher BoundMatcher → Matcher
   matcher_step (layer.Var level) =
       record { level = Some level; finds = λ levels scope t found. if is_level (slice_index_or levels level level) (out-Term t) then Some found else None }
@@ -88,6 +92,7 @@ module _ (front : Ground) where
   matcher_step (layer.Meta name ctxs args) =
       record { level = None; finds = λ levels scope t found. meta_found name (front ctxs ++ map (λ (a : Matcher). argument levels a.level) args) scope t found }
 
+  -- a bound body has to have as many binders, and finds in the scope behind them
   abbrev pub matcher_bound_step : PBound-F Matcher BoundMatcher → BoundMatcher
   matcher_bound_step b =
       record {
@@ -95,9 +100,11 @@ module _ (front : Ground) where
             if nat_eq b.binders x.binders then b.body.finds (levels ++ upto scope b.binders) (scope + b.binders) x.body found else None;
       }
 
+  -- what a pattern is to a match
   abbrev pub matcher : Pattern → Matcher
   matcher = fold-Pattern Matcher BoundMatcher matcher_step matcher_bound_step
 
+  -- what a bound body is to a match
   abbrev pub matcher_bound : PBound → BoundMatcher
   matcher_bound = fold-PBound Matcher BoundMatcher matcher_step matcher_bound_step
 

@@ -68,11 +68,13 @@ past_context name place hyps =
     let x : CtxVal = record { name = name; first = place.next; hyps = hyps } in
     record place { ctxs = place.ctxs ++ x ∷ []; next = place.next + length hyps }
 
+-- what a named hypothesis finds, and the place behind it
 abbrev pub hyp_found : Pattern → Term → Walk → Option Walk
 hyp_found p t w =
     option_map (λ (found : Found). record { place = past_named w.place; found = found })
     (found_in (ground_of w.place) p (levels_at w.place w.place.next) w.place.next t w.found)
 
+-- the term and the rest, where there are both
 abbrev pub kept_with : Option Term → Option (List Term) → Option (List Term)
 kept_with None rest = None
 kept_with (Some t) rest = option_map (λ ts. t ∷ ts) rest
@@ -104,9 +106,11 @@ module _ (sizes : Sizes) where
 
 -- ## Sequents
 
+-- before the first item nothing is found
 abbrev pub first_walk : Walk
 first_walk = record { place = record { ambient = 0; ctxs = []; named = []; next = 0 }; found = nothing_found }
 
+-- the instance, once the conclusion is matched too
 abbrev pub concl_found : Pattern → Term → Walk → Option Inst
 concl_found p t w = option_map (as_instance w.place) (found_in (ground_of w.place) p (levels_at w.place w.place.next) w.place.next t w.found)
 

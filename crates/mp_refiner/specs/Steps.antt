@@ -27,10 +27,12 @@ given_all (n ∷ ns) (g ∷ gs) i = option_and_then (given_all ns gs) (given_to 
 abbrev pub limited : List Sequent → Outcome Sequent
 limited kids = if list_all within_limits_of kids then Ok kids else Err TooLarge
 
+-- the subgoals by the instance with what is given, if there is one
 abbrev pub outcome_given : Rule → Option Inst → Outcome Sequent
 outcome_given rule None = Err BadArgument
 outcome_given rule (Some i) = limited (map (seq (instance_of i)) rule.premises)
 
+-- the subgoals by the instance that matches, if there is one
 abbrev pub outcome_matched : Rule → List Given → Option Inst → Outcome Sequent
 outcome_matched rule given None = Err NoMatch
 outcome_matched rule given (Some i) = outcome_given rule (given_all (needs_of rule.premises rule.concl) given i)
@@ -40,6 +42,7 @@ outcome_matched rule given (Some i) = outcome_given rule (given_all (needs_of ru
 abbrev pub outcome_of : Rule → Option ℕ → List Given → Sequent → Outcome Sequent
 outcome_of rule first given goal = outcome_matched rule given (match_of rule.concl first goal)
 
+-- the subgoals by the rule, if it is there
 abbrev pub outcome_at : Option Rule → Option ℕ → List Given → Sequent → Outcome Sequent
 outcome_at None first given goal = Err NoMatch
 outcome_at (Some rule) first given goal = outcome_of rule first given goal

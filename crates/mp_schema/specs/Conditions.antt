@@ -13,11 +13,13 @@ use Rattle.mp_schema.specs.Instances.{all_pass}
 
 -- ## Variables in range
 
+-- one layer of a pattern is in range where its variable and its parts are
 abbrev pub below_step : Pattern-F Scoped Scoped → Scoped
 below_step (layer.Var level) d = nat_lt level d
 below_step (layer.Op op params subs) d = at_scope d subs
 below_step (layer.Meta name ctxs args) d = at_scope d args
 
+-- a body may use its binders too
 abbrev pub below_bound_step : PBound-F Scoped Scoped → Scoped
 below_bound_step b d = b.body (d + b.binders)
 
@@ -25,6 +27,7 @@ below_bound_step b d = b.body (d + b.binders)
 abbrev pub below : Pattern → Scoped
 below = fold-Pattern Scoped Scoped below_step below_bound_step
 
+-- so is each variable of a bound body
 abbrev pub below_bound : PBound → Scoped
 below_bound = fold-PBound Scoped Scoped below_step below_bound_step
 
@@ -50,11 +53,13 @@ abbrev pub is_known : List Sym → List Sym → Bool
 is_known known names = has_all known names && is_apart names
 
 module _ (known : List Sym) where
+  -- one layer's lists are known where its own list and its parts' are
   abbrev pub lists_known_step : Pattern-F Bool Bool → Bool
   lists_known_step (layer.Var level) = true
   lists_known_step (layer.Op op params subs) = all_pass subs
   lists_known_step (layer.Meta name ctxs args) = is_known known ctxs && all_pass args
 
+  -- a bound body's lists are its pattern's
   abbrev pub lists_known_bound_step : PBound-F Bool Bool → Bool
   lists_known_bound_step b = b.body
 
@@ -62,6 +67,7 @@ module _ (known : List Sym) where
   abbrev pub lists_known : Pattern → Bool
   lists_known = fold-Pattern Bool Bool lists_known_step lists_known_bound_step
 
+  -- so has each list in a bound body
   abbrev pub lists_known_bound : PBound → Bool
   lists_known_bound = fold-PBound Bool Bool lists_known_step lists_known_bound_step
 
@@ -73,30 +79,36 @@ pub record Seen : Type 0 where
   pub level : Option ℕ
   pub fine : ℕ → Bool
 
+-- the same of a bound body
 pub record SeenBound : Type 0 where
   pub fine : ℕ → Bool
 
+-- the level isn't in the list
 abbrev pub apart_from : ℕ → List ℕ → Bool
 apart_from x [] = true
 apart_from x (y ∷ ys) = not (nat_eq x y) && apart_from x ys
 
+-- the pattern is a variable below d
 abbrev pub is_variable : ℕ → Option ℕ → Bool
 is_variable d None = false
 is_variable d (Some level) = nat_lt level d
 
--- the levels of the patterns, where each is a variable
+-- the level, or 0 where there is none
 abbrev pub or_zero : Option ℕ → ℕ
 or_zero None = 0
 or_zero (Some level) = level
 
+-- each of the patterns is one
 abbrev pub all_variables : ℕ → List Seen → Bool
 all_variables d [] = true
 all_variables d (a ∷ rest) = is_variable d a.level && all_variables d rest
 
+-- no level is in the list twice
 abbrev pub all_apart : List ℕ → Bool
 all_apart [] = true
 all_apart (x ∷ xs) = apart_from x xs && all_apart xs
 
+-- each second-order variable in the bodies is applied to distinct variables
 abbrev pub all_fine : ℕ → List SeenBound → Bool
 all_fine d [] = true
 all_fine d (b ∷ bs) = b.fine d && all_fine d bs
@@ -105,17 +117,21 @@ all_fine d (b ∷ bs) = b.fine d && all_fine d bs
 abbrev pub args_fine : ℕ → List Seen → Bool
 args_fine d args = all_variables d args && all_apart (map (λ (a : Seen). or_zero a.level) args)
 
+-- what is seen of one layer of a pattern, from what is seen of its parts
 abbrev pub seen_step : Pattern-F Seen SeenBound → Seen
 seen_step (layer.Var level) = record { level = Some level; fine = λ d. nat_lt level d }
 seen_step (layer.Op op params subs) = record { level = None; fine = λ d. all_fine d subs }
 seen_step (layer.Meta name ctxs args) = record { level = None; fine = λ d. args_fine d args }
 
+-- below its binders a bound body has so many levels more
 abbrev pub seen_bound_step : PBound-F Seen SeenBound → SeenBound
 seen_bound_step b = record { fine = λ d. b.body.fine (d + b.binders) }
 
+-- what is seen of a pattern
 abbrev pub seen : Pattern → Seen
 seen = fold-Pattern Seen SeenBound seen_step seen_bound_step
 
+-- what is seen of a bound body
 abbrev pub seen_bound : PBound → SeenBound
 seen_bound = fold-PBound Seen SeenBound seen_step seen_bound_step
 
@@ -126,6 +142,7 @@ pub record Before : Type 0 where
   pub named : ℕ
   pub contexts : List Sym
 
+-- before the first item there is nothing
 abbrev pub nothing_before : Before
 nothing_before = record { named = 0; contexts = [] }
 
@@ -151,6 +168,7 @@ module _ (good : Item → Before → Bool) where
 abbrev pub pattern_placed : Pattern → Before → Bool
 pattern_placed p b = below p b.named && lists_known b.contexts p
 
+-- so are all patterns
 abbrev pub all_placed : List Pattern → Before → Bool
 all_placed [] b = true
 all_placed (p ∷ ps) b = pattern_placed p b && all_placed ps b
@@ -182,6 +200,7 @@ names_in [] = []
 names_in (Hyp p ∷ is) = names_in is
 names_in (Ctx name ctxs args ∷ is) = name ∷ names_in is
 
+-- the names of the contexts of a schema
 abbrev pub context_names : Schema → List Sym
 context_names s = names_in s.items
 

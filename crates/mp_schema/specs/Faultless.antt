@@ -81,9 +81,11 @@ NeedsFit v premises concl =
 
 -- ## The laws
 
+-- a rule in which no fault is found has none
 abbrev pub RulesAreFaultless : Type 0
 RulesAreFaultless = (premises : List Schema) (concl : Schema) → rule_fault_of premises concl ≡ None → IsFaultlessRule premises concl
 
+-- a rewrite in which no fault is found has none
 abbrev pub RewritesAreFaultless : Type 0
 RewritesAreFaultless =
     (conds : List Pattern) (redex contractum : Pattern) → rewrite_fault_of conds redex contractum ≡ None → IsFaultlessRewrite conds redex contractum

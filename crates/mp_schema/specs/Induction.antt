@@ -15,6 +15,7 @@ module _ (P : Pattern → Type 0) where
   OfEachBody [] = Unit {0}
   OfEachBody (b ∷ bs) = P b.body × OfEachBody bs
 
+  -- the fact holds of each argument
   abbrev pub OfEachArg : List Pattern → Type 0
   OfEachArg [] = Unit {0}
   OfEachArg (a ∷ rest) = P a × OfEachArg rest

@@ -13,11 +13,13 @@ use Rattle.mp_schema.specs.Instances.{all_pass}
 
 -- ## How many
 
+-- one layer of a pattern whose parts are few: so is the layer
 abbrev pub few_step : Pattern-F Bool Bool → Bool
 few_step (layer.Var level) = true
 few_step (layer.Op op params subs) = nat_le (length params) 16 && all_pass subs
 few_step (layer.Meta name ctxs args) = nat_le (length ctxs) 8 && nat_le (length args) 8 && all_pass args
 
+-- a body of few parts, below few binders
 abbrev pub few_bound_step : PBound-F Bool Bool → Bool
 few_bound_step b = nat_le b.binders 8 && b.body
 
@@ -26,6 +28,7 @@ few_bound_step b = nat_le b.binders 8 && b.body
 abbrev pub few_of : Pattern → Bool
 few_of = fold-Pattern Bool Bool few_step few_bound_step
 
+-- so has a bound body, which has at most 8 binders
 abbrev pub few_of_bound : PBound → Bool
 few_of_bound = fold-PBound Bool Bool few_step few_bound_step
 
@@ -40,9 +43,11 @@ few_of_schema s = nat_le (length s.items) 200 && list_all few_of_item s.items &&
 
 -- ## How deep
 
+-- a body is as deep as its pattern
 abbrev pub body_step : PBound-F ℕ ℕ → ℕ
 body_step b = b.body
 
+-- the depth of one layer, from the depths of its parts
 abbrev pub pattern_depth_step : Pattern-F ℕ ℕ → ℕ
 pattern_depth_step (layer.Var level) = 1
 pattern_depth_step (layer.Op op params subs) = 1 + greatest subs
@@ -52,6 +57,7 @@ pattern_depth_step (layer.Meta name ctxs args) = 1 + greatest args
 abbrev pub pattern_depth_of : Pattern → ℕ
 pattern_depth_of = fold-Pattern ℕ ℕ pattern_depth_step body_step
 
+-- the depth of a bound body
 abbrev pub pattern_depth_of_bound : PBound → ℕ
 pattern_depth_of_bound = fold-PBound ℕ ℕ pattern_depth_step body_step
 
@@ -64,14 +70,17 @@ item_depth_of (Ctx name ctxs args) = 1 + greatest (map pattern_depth_of args)
 abbrev pub is_shallow_pattern : Pattern → Bool
 is_shallow_pattern p = nat_le (pattern_depth_of p) 200
 
+-- so is an item
 abbrev pub is_shallow_item : Item → Bool
 is_shallow_item i = nat_le (item_depth_of i) 200
 
+-- so are all items of a schema and its conclusion
 abbrev pub is_shallow_schema : Schema → Bool
 is_shallow_schema s = list_all is_shallow_item s.items && is_shallow_pattern s.concl
 
 -- ## How big
 
+-- the size of one layer, from the sizes of its parts
 abbrev pub pattern_size_step : Pattern-F ℕ ℕ → ℕ
 pattern_size_step (layer.Var level) = 1
 pattern_size_step (layer.Op op params subs) = 1 + sum subs
@@ -81,6 +90,7 @@ pattern_size_step (layer.Meta name ctxs args) = 1 + sum args
 abbrev pub pattern_size_of : Pattern → ℕ
 pattern_size_of = fold-Pattern ℕ ℕ pattern_size_step body_step
 
+-- the size of a bound body
 abbrev pub pattern_size_of_bound : PBound → ℕ
 pattern_size_of_bound = fold-PBound ℕ ℕ pattern_size_step body_step
 
@@ -89,6 +99,7 @@ abbrev pub item_size_of : Item → ℕ
 item_size_of (Hyp p) = pattern_size_of p
 item_size_of (Ctx name ctxs args) = sum (map pattern_size_of args)
 
+-- the sizes of all items and of the conclusion
 abbrev pub schema_size_of : Schema → ℕ
 schema_size_of s = sum (map item_size_of s.items) + pattern_size_of s.concl
 
@@ -96,5 +107,6 @@ schema_size_of s = sum (map item_size_of s.items) + pattern_size_of s.concl
 abbrev pub is_small_pattern : Pattern → Bool
 is_small_pattern p = nat_le (pattern_size_of p) 20000
 
+-- so has a schema
 abbrev pub is_small_schema : Schema → Bool
 is_small_schema s = nat_le (schema_size_of s) 20000

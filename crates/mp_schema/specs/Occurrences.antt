@@ -27,9 +27,11 @@ pub record Shown : Type 0 where
   pub level : Option ℕ
   pub occurrences : List Occurrence
 
+-- the occurrences that these show, one after the other
 abbrev pub occurrences_shown : List Shown → List Occurrence
 occurrences_shown args = flat_map (λ (a : Shown). a.occurrences) args
 
+-- what one layer of a pattern shows, from what its parts show
 abbrev pub shown_step : Pattern-F Shown (List Occurrence) → Shown
 shown_step (layer.Var level) = record { level = Some level; occurrences = [] }
 shown_step (layer.Op op params subs) = record { level = None; occurrences = flat_map (λ os. os) subs }
@@ -39,12 +41,15 @@ shown_step (layer.Meta name ctxs args) = record {
       record { is_context = false; name = name; ctxs = ctxs; levels = map (λ (a : Shown). a.level) args } ∷ occurrences_shown args;
 }
 
+-- the occurrences that a bound body shows
 abbrev pub shown_bound_step : PBound-F Shown (List Occurrence) → List Occurrence
 shown_bound_step b = b.body.occurrences
 
+-- what a pattern shows
 abbrev pub shown : Pattern → Shown
 shown = fold-Pattern Shown (List Occurrence) shown_step shown_bound_step
 
+-- the occurrences in a bound body
 abbrev pub occurrences_in_bound : PBound → List Occurrence
 occurrences_in_bound = fold-PBound Shown (List Occurrence) shown_step shown_bound_step
 
@@ -62,6 +67,7 @@ occurrences_in_item (Hyp p) = occurrences_in p
 occurrences_in_item (Ctx name ctxs args) =
     record { is_context = true; name = name; ctxs = ctxs; levels = map level_of args } ∷ flat_map occurrences_in args
 
+-- those of all items, and then of the conclusion
 abbrev pub occurrences_in_schema : Schema → List Occurrence
 occurrences_in_schema s = flat_map occurrences_in_item s.items ++ occurrences_in s.concl
 
@@ -76,11 +82,13 @@ abbrev pub hole_in_param : ParamPat → List Sym
 hole_in_param (Lit p) = []
 hole_in_param (Hole name) = name ∷ []
 
+-- the holes of one layer of a pattern: its parameters', and then its parts'
 abbrev pub holes_step : Pattern-F (List Sym) (List Sym) → List Sym
 holes_step (layer.Var level) = []
 holes_step (layer.Op op params subs) = flat_map hole_in_param params ++ flat_map (λ hs. hs) subs
 holes_step (layer.Meta name ctxs args) = flat_map (λ hs. hs) args
 
+-- the holes of a bound body are its pattern's
 abbrev pub holes_bound_step : PBound-F (List Sym) (List Sym) → List Sym
 holes_bound_step b = b.body
 
@@ -88,12 +96,15 @@ holes_bound_step b = b.body
 abbrev pub holes_in : Pattern → List Sym
 holes_in = fold-Pattern (List Sym) (List Sym) holes_step holes_bound_step
 
+-- those of a bound body
 abbrev pub holes_in_bound : PBound → List Sym
 holes_in_bound = fold-PBound (List Sym) (List Sym) holes_step holes_bound_step
 
+-- those of an item
 abbrev pub holes_in_item : Item → List Sym
 holes_in_item (Hyp p) = holes_in p
 holes_in_item (Ctx name ctxs args) = flat_map holes_in args
 
+-- those of all items, and then of the conclusion
 abbrev pub holes_in_schema : Schema → List Sym
 holes_in_schema s = flat_map holes_in_item s.items ++ holes_in s.concl

@@ -40,6 +40,7 @@ pub record Spot : Type 0 where
   pub pos : Sym → ℕ
   pub next : ℕ
 
+-- the place before the first item
 abbrev pub first_spot : Spot
 first_spot = record { env = []; pos = λ name. 0; next = 0 }
 

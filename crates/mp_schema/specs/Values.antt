@@ -16,10 +16,12 @@ abbrev pub find_meta : List MetaVal → Sym → Option MetaVal
 find_meta [] name = None
 find_meta (x ∷ xs) name = if nat_eq x.name.0 name.0 then Some x else find_meta xs name
 
+-- the first parameter of this name
 abbrev pub find_param : List ParamVal → Sym → Option Param
 find_param [] name = None
 find_param (x ∷ xs) name = if nat_eq x.name.0 name.0 then Some x.value else find_param xs name
 
+-- the first context's value of this name
 abbrev pub find_ctx : List CtxVal → Sym → Option CtxVal
 find_ctx [] name = None
 find_ctx (x ∷ xs) name = if nat_eq x.name.0 name.0 then Some x else find_ctx xs name
@@ -29,10 +31,12 @@ abbrev pub body_or : Option MetaVal → Term
 body_or None = Var 0
 body_or (Some x) = x.body
 
+-- the hypotheses that are kept; none where there is no value
 abbrev pub kept_or : Option CtxVal → List Term
 kept_or None = []
 kept_or (Some x) = x.hyps
 
+-- the level of the first variable; 0 where there is no value
 abbrev pub first_or : Option CtxVal → ℕ
 first_or None = 0
 first_or (Some x) = x.first

@@ -30,11 +30,13 @@ are_for [] (g ∷ gs) = false
 are_for (n ∷ ns) [] = false
 are_for (n ∷ ns) (g ∷ gs) = is_for n g && are_for ns gs
 
+-- both tests pass, or neither
 abbrev pub same_bool : Bool → Bool → Bool
 same_bool true b = b
 same_bool false true = false
 same_bool false false = true
 
+-- the rule is there and may be a theory's, and the size and the given terms are as it asks
 abbrev pub is_allowed_at : Option Rule → Option ℕ → List Given → Bool
 is_allowed_at None first given = false
 is_allowed_at (Some rule) first given =

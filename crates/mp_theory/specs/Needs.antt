@@ -21,6 +21,7 @@ uses_step (layer.Var level) = []
 uses_step (layer.Op op params subs) = all_uses subs
 uses_step (layer.Meta name ctxs args) = record { name = name; ctxs = ctxs; arity = min (length args) 4294967295 } ∷ all_uses args
 
+-- the uses in a bound body are its pattern's
 abbrev pub uses_bound_step : PBound-F (List Need) (List Need) → List Need
 uses_bound_step b = b.body
 
@@ -28,9 +29,11 @@ uses_bound_step b = b.body
 abbrev pub uses_of : Pattern → List Need
 uses_of = fold-Pattern (List Need) (List Need) uses_step uses_bound_step
 
+-- each use in a bound body
 abbrev pub uses_bound : PBound → List Need
 uses_bound = fold-PBound (List Need) (List Need) uses_step uses_bound_step
 
+-- each use in an item
 abbrev pub item_uses : Item → List Need
 item_uses (Hyp p) = uses_of p
 item_uses (Ctx name ctxs args) = all_uses (map uses_of args)
@@ -45,6 +48,7 @@ is_needed [] name = false
 is_needed (x ∷ xs) name = nat_eq x.name.0 name.0 || is_needed xs name
 
 module _ (skip : List Need) where
+  -- what is held once this use is met
   abbrev pub joined_by : List Need → Need → List Need
   joined_by held u = if is_needed skip u.name || is_needed held u.name then held else held ++ u ∷ []
 

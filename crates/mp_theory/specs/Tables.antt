@@ -35,6 +35,7 @@ AreRules (rule ∷ rules) = IsRule rule × AreRules rules
 abbrev pub rule_of : Sym → List Schema → Schema → Rule
 rule_of name premises concl = record { name = name; premises = premises; concl = concl; needs = needs_of premises concl }
 
+-- a rule's fault as a refusal
 abbrev pub refusal_by : Option SchemaFault → Option TheoryErr
 refusal_by None = None
 refusal_by (Some fault) = Some (err.Schema fault)
