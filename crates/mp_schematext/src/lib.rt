@@ -7,7 +7,6 @@ mod raw;
 mod rule;
 
 pub use laws::one_reading;
-pub use pattern::{parse_arguments, parse_contexts, parse_pattern};
 pub use raw::{RawItem, RawParamPat, RawPattern, RawPatternBound, RawRule, RawSchema};
 pub use rule::parse_theory;
 
