@@ -1,6 +1,7 @@
 #!/usr/bin/env python3
-"""How long `metatac seq` takes on long theories, large goals, scripts of many goals and trees of many lines; run by hand,
-at the top of the repository, once the program is built (`rt run` in crates/metatac leaves it as out/metatac).
+"""How long `metatac seq` takes on long theories, large goals, scripts of many goals and trees of many lines, and
+`metatac drill` on many goals with a section each; run by hand, at the top of the repository, once the program is built
+(`rt run` in crates/metatac leaves it as out/metatac).
 
 usage: bench/seq.py [PROGRAM] [RUNS]
 It prints the least wall time and the least processor time of RUNS runs (5 if left out) for each size. What the program
@@ -51,14 +52,16 @@ def processor_time():
     return used.ru_utime + used.ru_stime
 
 
-def run(program, runs, label, theory_text, script, due):
+def run(program, runs, label, theory_text, script, due, schedule=None):
     with tempfile.TemporaryDirectory() as folder:
+        words = ["seq", "t", "s"] if schedule is None else ["drill", "t", "s", "d"]
         Path(folder, "t").write_text(theory_text)
         Path(folder, "s").write_text(script)
+        Path(folder, "d").write_text(schedule or "")
         walls, works = [], []
         for _ in range(runs):
             begin, worked = time.perf_counter(), processor_time()
-            done = subprocess.run([program, "seq", "t", "s"], cwd=folder, capture_output=True, timeout=300)
+            done = subprocess.run([program, *words], cwd=folder, capture_output=True, timeout=300)
             walls.append(time.perf_counter() - begin)
             works.append(processor_time() - worked)
             if done.returncode or done.stdout != due.encode():
@@ -100,6 +103,14 @@ def tall(program, runs, depth):
         "rule two : >- 'A, >- 'A ==> >- d{'A}\nrule one : ==> >- c\n", script, due)
 
 
+def drilled(program, runs, count):
+    """A script of so many goals, each closed by one step, and a schedule with a section for each."""
+    goals = "".join(f"goal g{k} : >- c by rule one\n" for k in range(count))
+    sections = "".join(f"goal g{k} claim 1 send 1\n" for k in range(count))
+    due = "".join(f"drill g{k}\nclaim 1: ticket 1\nsend 1 256: taken\ngoal g{k}: closed\nrule one | >- c\n" for k in range(count))
+    run(program, runs, f"drill of {count:6,} goals", "rule one : ==> >- c\n", goals, due, sections)
+
+
 def main():
     program = Path(sys.argv[1] if len(sys.argv) > 1 else "crates/metatac/out/metatac").resolve()
     runs = int(sys.argv[2]) if len(sys.argv) > 2 else 5
@@ -109,6 +120,8 @@ def main():
         many(program, runs, count)
     for depth in [12, 13, 14]:
         tall(program, runs, depth)
+    for count in [5000, 10000, 20000]:
+        drilled(program, runs, count)
 
 
 if __name__ == "__main__":

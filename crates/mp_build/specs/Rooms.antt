@@ -15,11 +15,13 @@ use Rattle.mp_schema.specs.Sequents.{Instance, wide_of}
 use Rattle.mp_build.specs.Sizes.{item_count}
 
 module _ (wide : Wide) (v : Values) where
+  -- the widest scope of one layer, from those of its parts
   abbrev pub room_step : Pattern-F Widths Widths → Widths
   room_step (layer.Var level) m = m
   room_step (layer.Op op params subs) m = widest_at m subs
   room_step (layer.Meta name ctxs args) m = widest_of (v.meta name) (wide ctxs + length args) + widest_at m args
 
+  -- that of a bound body, in the scope behind its binders
   abbrev pub room_bound_step : PBound-F Widths Widths → Widths
   room_bound_step b m = max (m + b.binders) (b.body (m + b.binders))
 
@@ -27,6 +29,7 @@ module _ (wide : Wide) (v : Values) where
   abbrev pub room : Pattern → Widths
   room = fold-Pattern Widths Widths room_step room_bound_step
 
+  -- so of a bound body
   abbrev pub room_bound : PBound → Widths
   room_bound = fold-PBound Widths Widths room_step room_bound_step
 

@@ -18,7 +18,7 @@ use Rattle.mp_build.specs.declared.site.Site.{Site}
 use Rattle.mp_build.specs.Rooms.{room, room_bound, telescope_room, item_room, items_room}
 use Rattle.mp_build.specs.Sizes.{item_count}
 
--- a context's level is that of its last entry, and 0 where it has none
+-- the levels, with this one for the context's name
 abbrev pub with_start : (Sym → ℕ) → Start → Sym → ℕ
 with_start pos s name = if nat_eq name.0 s.name.0 then s.level else pos name
 
@@ -39,9 +39,11 @@ module _ (v : Instance) (l : Spot) (base : ℕ) where
   abbrev pub made_at : Pattern → ℕ → Term
   made_at p m = inst_of (ground_at v l.pos) v.values p (env_at l base m) m
 
+  -- the bodies that are made there
   abbrev pub bodies_at : List PBound → ℕ → List Bound
   bodies_at bs m = made_each (map (inst_bound (ground_at v l.pos) v.values) bs) (env_at l base m) m
 
+  -- the arguments that are made there
   abbrev pub args_at : List Pattern → ℕ → List Term
   args_at args m = made_each (map (inst_of (ground_at v l.pos) v.values) args) (env_at l base m) m
 

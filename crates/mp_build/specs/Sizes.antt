@@ -28,6 +28,7 @@ abbrev pub behind_ones : ℕ → List ℕ → List ℕ
 behind_ones before args = replicate before 1 ++ args
 
 module _ (wide : Wide) (v : Values) where
+  -- the size of one layer's instance, from those of its parts
   abbrev pub inst_size_step : Pattern-F ℕ ℕ → ℕ
   inst_size_step (layer.Var level) = 1
   inst_size_step (layer.Op op params subs) = 1 + sum subs
@@ -37,18 +38,21 @@ module _ (wide : Wide) (v : Values) where
   abbrev pub inst_size : Pattern → ℕ
   inst_size = fold-Pattern ℕ ℕ inst_size_step pattern_body_step
 
+  -- the size of a bound body's instance
   abbrev pub inst_size_bound : PBound → ℕ
   inst_size_bound = fold-PBound ℕ ℕ inst_size_step pattern_body_step
 
+  -- the depth of one layer's instance, from those of its parts
   abbrev pub inst_depth_step : Pattern-F ℕ ℕ → ℕ
   inst_depth_step (layer.Var level) = 1
   inst_depth_step (layer.Op op params subs) = 1 + greatest subs
   inst_depth_step (layer.Meta name ctxs args) = sub_depth (behind_ones (wide ctxs) args) (v.meta name)
 
-  -- its depth
+  -- the depth of the pattern's instance
   abbrev pub inst_depth : Pattern → ℕ
   inst_depth = fold-Pattern ℕ ℕ inst_depth_step pattern_body_step
 
+  -- the depth of a bound body's instance
   abbrev pub inst_depth_bound : PBound → ℕ
   inst_depth_bound = fold-PBound ℕ ℕ inst_depth_step pattern_body_step
 

@@ -21,15 +21,18 @@ is_there None = false
 is_there (Some x) = true
 
 module _ (has_meta has_param : Sym → Bool) where
+  -- a parameter that is written has a value, and a hole where its name has one
   abbrev pub param_covered : ParamPat → Bool
   param_covered (Lit p) = true
   param_covered (Hole name) = has_param name
 
+  -- one layer is covered where its own name, its parameters and its parts are
   abbrev pub covered_step : Pattern-F Bool Bool → Bool
   covered_step (layer.Var level) = true
   covered_step (layer.Op op params subs) = list_all param_covered params && all_pass subs
   covered_step (layer.Meta name ctxs args) = has_meta name && all_pass args
 
+  -- a bound body is covered where its pattern is
   abbrev pub covered_bound_step : PBound-F Bool Bool → Bool
   covered_bound_step b = b.body
 
@@ -37,6 +40,7 @@ module _ (has_meta has_param : Sym → Bool) where
   abbrev pub covered : Pattern → Bool
   covered = fold-Pattern Bool Bool covered_step covered_bound_step
 
+  -- so of a bound body
   abbrev pub covered_bound : PBound → Bool
   covered_bound = fold-PBound Bool Bool covered_step covered_bound_step
 

@@ -88,6 +88,7 @@ kept_found levels m (t ∷ ts) = kept_with (unrenamed levels m t) (kept_found (l
 abbrev pub context_levels : List Sym → List Pattern → Place → List ℕ
 context_levels ctxs args place = ground_of place ctxs ++ map (λ (a : Seen). argument (levels_at place place.next) a.level) (map seen args)
 
+-- the place behind a context that keeps these hypotheses
 abbrev pub context_found : Sym → List Sym → List Pattern → List Term → Place → Option Place
 context_found name ctxs args hyps place = option_map (past_context name place) (kept_found (context_levels ctxs args place) place.next hyps)
 

@@ -4,8 +4,8 @@ ghost use Rattle.mp_schema.specs.Values.{find_meta, variables_of};
 use crate::*;
 use mp_logic::{List, Sym};
 use mp_schema::{
-    CtxVal, Inst, Item, MetaVal, PBound, ParamPat, Pattern, Schema, context_value, has_two_contexts,
-    meta_value, rewrite_fault, rule_fault,
+    CtxVal, Inst, Item, MetaVal, PBound, ParamPat, Pattern, Schema, context_value,
+    has_two_contexts, meta_value, rewrite_fault, rule_fault,
 };
 use mp_term::{
     Bound, Param, Sequent, Term, depth, few_binders, in_scope, same, sequent_few_binders,

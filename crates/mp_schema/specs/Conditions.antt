@@ -98,7 +98,7 @@ abbrev pub or_zero : Option ℕ → ℕ
 or_zero None = 0
 or_zero (Some level) = level
 
--- each of the patterns is one
+-- each of the patterns is a variable below d
 abbrev pub all_variables : ℕ → List Seen → Bool
 all_variables d [] = true
 all_variables d (a ∷ rest) = is_variable d a.level && all_variables d rest

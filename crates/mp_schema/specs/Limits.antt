@@ -13,7 +13,7 @@ use Rattle.mp_schema.specs.Instances.{all_pass}
 
 -- ## How many
 
--- one layer of a pattern whose parts are few: so is the layer
+-- one layer is within these numbers where its own lists are, and its parts
 abbrev pub few_step : Pattern-F Bool Bool → Bool
 few_step (layer.Var level) = true
 few_step (layer.Op op params subs) = nat_le (length params) 16 && all_pass subs

@@ -21,7 +21,7 @@ abbrev pub find_param : List ParamVal → Sym → Option Param
 find_param [] name = None
 find_param (x ∷ xs) name = if nat_eq x.name.0 name.0 then Some x.value else find_param xs name
 
--- the first context's value of this name
+-- the first value of a context of this name
 abbrev pub find_ctx : List CtxVal → Sym → Option CtxVal
 find_ctx [] name = None
 find_ctx (x ∷ xs) name = if nat_eq x.name.0 name.0 then Some x else find_ctx xs name

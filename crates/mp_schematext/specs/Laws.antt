@@ -1,4 +1,4 @@
--- The words of a theory have one reading, or are stuck at one place, and not both.
+-- The words of a theory have at most one reading or one place where they are stuck, and not both.
 use Rattle.mp_words.specs.Parts.{OneReading}
 use Rattle.mp_schematext.specs.Grammar.{IsTheory, StuckTheory}
 

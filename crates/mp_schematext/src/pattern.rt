@@ -77,7 +77,10 @@ fn parse_param_pats(alloc: Global, words: &[Word]) -> Result<(List<RawParamPat>,
 }
 
 /// Reads contexts between `<` and `>`; there are none where no `<` stands.
-pub(crate) fn parse_contexts(alloc: Global, words: &[Word]) -> Result<(List<RawName>, &[Word]), ReadFail>
+pub(crate) fn parse_contexts(
+    alloc: Global,
+    words: &[Word],
+) -> Result<(List<RawName>, &[Word]), ReadFail>
     ensures reads { Reads (λ x. (x.0, x.1.now)) AreContexts StuckContexts words.now result }
     ensures within { IfOk result (λ x. length x.1.now ≤ length words.now) }
 {
@@ -89,7 +92,10 @@ pub(crate) fn parse_contexts(alloc: Global, words: &[Word]) -> Result<(List<RawN
 
 /// Reads a pattern at the front of the words.
 #[cycle(parsing)]
-pub(crate) fn parse_pattern(alloc: Global, words: &[Word]) -> Result<(RawPattern, &[Word]), ReadFail>
+pub(crate) fn parse_pattern(
+    alloc: Global,
+    words: &[Word],
+) -> Result<(RawPattern, &[Word]), ReadFail>
     ensures reads { Reads (λ x. (x.0, x.1.now)) IsPattern StuckPattern words.now result }
     ensures shorter { IfOk result (λ x. length x.1.now < length words.now) }
 {

@@ -19,7 +19,7 @@ IsScriptText rules = IsText IsScript StuckScript (script_faults rules) (script_o
 abbrev pub IsScriptFault : List Rule → List (List ℕ) → List ℕ → TextErr → Type 0
 IsScriptFault rules = IsFaulty IsScript StuckScript (script_faults rules) (script_of rules)
 
--- the reader answers with the script of the text or with its fault, and with the names then
+-- the script of the text, or its one fault, or want of memory; and the names behind the reading
 abbrev pub ReadsScript : List Rule → List (List ℕ) → List ℕ → Result Script TextFail → List (List ℕ) → Type 0
 ReadsScript rules = ReadsText IsScript StuckScript (script_faults rules) (script_of rules)
 

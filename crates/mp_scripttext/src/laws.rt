@@ -1,7 +1,7 @@
 ghost use Rattle.mp_scripttext.specs.Laws.{OneScript};
 ghost use Rattle.mp_scripttext.specs.Reading.{OneScriptText};
 
-/// The words of a script have one reading, or are stuck at one place, and not both.
+/// The words of a script have at most one reading or one place where they are stuck, and not both.
 pub fn one_reading()
     ensures { OneScript }
 {}
