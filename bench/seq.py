@@ -111,11 +111,29 @@ def drilled(program, runs, count):
     run(program, runs, f"drill of {count:6,} goals", "rule one : ==> >- c\n", goals, due, sections)
 
 
+def named(program, runs, size, names):
+    """A theory of one rule with 16 premises of about `size` bytes together, each of them the use of a second-order variable
+    over and over: of `names` of them in turn, or each time of another one where that is 0."""
+    uses, number = [], 0
+    while sum(len(u) for u in uses) < size:
+        left = size - sum(len(u) for u in uses)
+        more = [f"'A{(number + k) % names if names else number + k}" for k in range(max(1, left // 8))]
+        number += len(more)
+        uses += more
+    part = -(-len(uses) // 16)
+    premises = ", ".join(f">- f{{{'; '.join(uses[k * part:(k + 1) * part])}}}" for k in range(16))
+    rule = f"rule one : {premises} ==> >- c\n"
+    run(program, runs, f"one rule {len(rule):9,} bytes, {names or len(uses):7,} names", rule, "", "")
+
+
 def main():
     program = Path(sys.argv[1] if len(sys.argv) > 1 else "crates/metatac/out/metatac").resolve()
     runs = int(sys.argv[2]) if len(sys.argv) > 2 else 5
     for size, nodes in [(0, 10), (524288, 10), (1048576, 10), (0, 10000), (0, 20000), (1048576, 20000)]:
         large(program, runs, max(size, len(USED)), nodes)
+    for names in [8, 0]:
+        for size in [150000, 300000, 600000]:
+            named(program, runs, size, names)
     for count in [200, 400, 800]:
         many(program, runs, count)
     for depth in [12, 13, 14]:
