@@ -16,4 +16,3 @@ pub mod SequentSizes
 pub mod Used
 pub mod Weighed
 pub mod TermFacts
-pub mod TestFacts

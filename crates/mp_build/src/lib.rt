@@ -18,8 +18,6 @@ mod sequent;
 mod site;
 mod sizes;
 mod term;
-#[cfg(test)]
-mod tests;
 mod values;
 mod weights;
 

@@ -12,6 +12,3 @@ pub use law::{every_call_keeps_sound, every_run_is_sound};
 pub use node::Node;
 pub use state::{CoreState, MachineState, Parcel, Ticket};
 pub use works::copy_parcel;
-
-#[cfg(test)]
-mod tests;

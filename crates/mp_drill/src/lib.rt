@@ -21,10 +21,3 @@ pub use raw::{RawEvent, RawSection};
 pub use reading::read_schedule;
 pub use schedule::{Event, Reply, Section};
 pub use sections::Sections;
-
-#[cfg(test)]
-mod reading_tests;
-#[cfg(test)]
-mod sections_tests;
-#[cfg(test)]
-mod tests;

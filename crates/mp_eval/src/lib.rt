@@ -10,6 +10,3 @@ pub use laws::{
     closed_goals_are_derivable, eval_is_allowed, goals_stay_good, only_eval_is_allowed,
     trees_are_sound,
 };
-
-#[cfg(test)]
-mod tests;

@@ -4,8 +4,6 @@
 mod byte;
 mod front;
 mod lexer;
-#[cfg(test)]
-mod tests;
 mod token;
 
 pub use lexer::tokens;

@@ -13,6 +13,3 @@ pub use logic::{Logic, StepErr, Why, copy_tree};
 pub use memory::NoMemory;
 pub use sym::Sym;
 pub use tree::{JustId, Tree, count, graft, leaf_count, root};
-
-#[cfg(test)]
-mod tests;

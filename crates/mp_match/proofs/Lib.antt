@@ -25,6 +25,5 @@ pub mod Solving
 pub mod Steps
 pub mod Telescopes
 pub mod TermMatch
-pub mod TestFacts
 pub mod Ties
 pub mod WalkLaws

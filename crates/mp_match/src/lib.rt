@@ -20,8 +20,6 @@ mod patterns;
 mod place;
 mod sequents;
 mod sizes;
-#[cfg(test)]
-mod tests;
 
 pub use giving::give;
 pub use laws::{agreement_laws, match_laws};

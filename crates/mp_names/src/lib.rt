@@ -6,6 +6,3 @@ mod table;
 
 pub use set::NameSet;
 pub use table::Names;
-
-#[cfg(test)]
-mod tests;

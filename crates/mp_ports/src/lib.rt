@@ -6,8 +6,6 @@ mod files;
 mod memory;
 mod output;
 mod ports;
-#[cfg(test)]
-mod tests;
 
 pub use files::FileShelf;
 pub use memory::{MemShelf, MemSink};

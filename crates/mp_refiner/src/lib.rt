@@ -7,11 +7,7 @@
 
 mod law;
 mod refiner;
-#[cfg(test)]
-mod samples;
 mod step;
-#[cfg(test)]
-mod tests;
 mod value;
 
 pub use law::step_law;

@@ -8,6 +8,3 @@ mod trace;
 pub use refusal::{FileKind, push_file, refusal_text};
 pub use result::result_text;
 pub use trace::trace_text;
-
-#[cfg(test)]
-mod tests;

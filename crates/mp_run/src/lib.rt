@@ -17,10 +17,3 @@ mod waiting;
 pub use laws::{one_answer, some_answer};
 pub use run::run_here;
 pub use status::Status;
-
-#[cfg(test)]
-mod samples;
-#[cfg(test)]
-mod step_tests;
-#[cfg(test)]
-mod tests;

@@ -33,8 +33,6 @@ mod place;
 mod rewrite;
 mod rule;
 mod schema;
-#[cfg(test)]
-mod tests;
 mod uses;
 
 pub use contexts::has_two_contexts;

@@ -9,6 +9,3 @@ mod rule;
 pub use laws::one_reading;
 pub use raw::{RawItem, RawParamPat, RawPattern, RawPatternBound, RawRule, RawSchema};
 pub use rule::parse_theory;
-
-#[cfg(test)]
-mod tests;

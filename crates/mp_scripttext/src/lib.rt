@@ -15,8 +15,6 @@ mod step;
 mod step_statics;
 mod syntax;
 mod table;
-#[cfg(test)]
-mod tests;
 
 pub use chain::parse_chain;
 pub use laws::{one_reading, one_text};

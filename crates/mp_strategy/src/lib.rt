@@ -12,6 +12,3 @@ pub use outcome::{Failure, Kind, Outcome, copy_outcome};
 pub use problem::Problem;
 pub use tactic::{Tac, TacId};
 pub use work::{Work, copy_work};
-
-#[cfg(test)]
-mod tests;

@@ -23,8 +23,3 @@ pub use syntax::{
     binders_ahead, parse_binders, parse_bound, parse_params, parse_sequent, parse_term, variable,
 };
 pub use value::{build_bound, build_sequent, build_term};
-
-#[cfg(test)]
-mod reading_tests;
-#[cfg(test)]
-mod tests;

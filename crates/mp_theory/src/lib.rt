@@ -4,8 +4,6 @@
 mod just;
 mod needs;
 mod rule;
-#[cfg(test)]
-mod tests;
 mod theory;
 
 pub use just::{Given, Just};

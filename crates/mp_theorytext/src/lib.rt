@@ -17,6 +17,3 @@ pub use making::build_theory;
 pub use reading::read_theory;
 pub use statics::theory_fault;
 pub use value::{build_schema, build_schemata};
-
-#[cfg(test)]
-mod tests;

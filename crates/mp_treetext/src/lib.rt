@@ -5,6 +5,3 @@ mod print;
 mod step;
 
 pub use print::{print_tree, push_tree};
-
-#[cfg(test)]
-mod tests;

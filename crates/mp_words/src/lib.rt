@@ -23,8 +23,3 @@ pub use parts::{
 pub use range::{check_number, check_written_number};
 pub use raw::{RawName, RawNumber};
 pub use word::{Keyword, Mark, Word};
-
-#[cfg(test)]
-mod list_tests;
-#[cfg(test)]
-mod tests;
