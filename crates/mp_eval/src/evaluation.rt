@@ -9,8 +9,7 @@ ghost use Rattle.mp_strategy.specs.Evaluation.{eval, eval_in, row_of, whole, on_
 ghost use Rattle.mp_strategy.specs.Laws.{depth_of, IsGood, IsSound};
 ghost use Rattle.mp_eval.specs.Kids.{on_kids as on_kids_of};
 
-use crate::waiting::Waiting;
-use mp_logic::{JustId, List, Logic, NoMemory, StepErr, Tree, Why};
+use mp_logic::{JustId, List, Logic, NoMemory, StepErr, Tree, Waiting, Why};
 use mp_strategy::{Failure, Kind, Outcome, Problem, Tac, TacId, Work};
 use std::alloc::Global;
 

@@ -3,7 +3,6 @@
 
 mod evaluation;
 mod laws;
-mod waiting;
 
 pub use evaluation::evaluate;
 pub use laws::{

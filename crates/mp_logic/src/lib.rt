@@ -13,3 +13,4 @@ pub use logic::{Logic, StepErr, Why, copy_tree};
 pub use memory::NoMemory;
 pub use sym::Sym;
 pub use tree::{JustId, Tree, count, graft, leaf_count, root};
+pub use waiting::Waiting;

@@ -12,7 +12,6 @@ mod run;
 mod status;
 mod stop;
 mod telling;
-mod waiting;
 
 pub use laws::{one_answer, some_answer};
 pub use run::run_here;
