@@ -4,6 +4,7 @@ ghost use Rattle.mp_term.specs.Terms.{size_of, depth_of, in_scope_of};
 ghost use Rattle.mp_term.specs.Limits.{few_binders_of};
 
 use crate::Term;
+use crate::limits::MOST_BINDERS;
 
 /// The number of variables and operators, at least 1. The count stops at `2^64 - 1`.
 pub fn size(t: &Term) -> u64
@@ -97,9 +98,6 @@ pub fn weigh(t: &Term) -> Weight
         }
     }
 }
-
-/// The most binders that a subterm of a good goal has.
-const MOST_BINDERS: u32 = 8;
 
 /// Whether each subterm, however deep, has at most 8 binders.
 pub fn few_binders(t: &Term) -> bool
