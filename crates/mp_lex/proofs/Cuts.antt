@@ -16,7 +16,7 @@ use Rattle.mp_lex.specs.declared.front.Front.{Front}
 use Rattle.mp_lex.specs.declared.front.Front.TheVariants as front
 use Rattle.mp_lex.specs.Bytes.{is_small, is_cap, is_digit, is_word, is_blank, is_comment}
 use Rattle.mp_lex.specs.Forms.{is_text}
-use Rattle.mp_lex.specs.Lex.{checked, string_len, mark_len, mark_of, ended_comment, comment_of, variable_of, begins_with, front_of}
+use Rattle.mp_lex.specs.Lex.{checked, string_len, mark_len, mark_front, ended_comment, comment_of, variable_of, begins_with, front_of}
 use Rattle.mp_lex.proofs.Found.{begins, branch}
 use Rattle.mp_lex.proofs.Fronts.{cap_word, no, small_word, word_run, yes}
 
@@ -139,9 +139,9 @@ mark_take b bs j =
     (pick (nat_eq b 61) _ _ _ _ (suc j) (tail_kept j bs (codes "=>") 3 0 refl)
     (pick (nat_eq b 45) _ _ _ _ (suc j) (tail_kept j bs (codes "->") 3 0 refl) (λ _. refl)))))
 
-mark_kept : (n m j : ℕ) (again : Front) → again ≡ mark_of m → (n ≤ j → m ≡ n) → Keeps j again (mark_of n)
+mark_kept : (n m j : ℕ) (again : Front) → again ≡ mark_front m → (n ≤ j → m ≡ n) → Keeps j again (mark_front n)
 mark_kept zero m j again e f = tt
-mark_kept (suc n) m j again e f = λ le. e ∙ ap mark_of (f le)
+mark_kept (suc n) m j again e f = λ le. e ∙ ap mark_front (f le)
 
 -- a `-` before no digit is before none where the text is cut
 no_digit : (b j : ℕ) (bs : List ℕ) → (nat_eq b 45 && begins_with is_digit bs) ≡ false → (nat_eq b 45 && begins_with is_digit (take j bs)) ≡ false
@@ -179,7 +179,7 @@ kept b bs j =
     (λ e. subst (λ x. Keeps (suc j) (front_of (x ∷ take j bs)) (checked Str BadString (1 + string_len false bs) (x ∷ bs))) (sym (eqb-true b 34 e))
     (checked_kept Str BadString (1 + string_len false bs) (34 ∷ bs) (suc j) (front_of (34 ∷ take j bs))
     (λ le. ap (λ n. checked Str BadString (1 + n) (34 ∷ take j bs)) (string_take false j bs (omega (arith, le))))))
-    (λ n7. branch P (nat_eq b 45 && begins_with is_digit bs) (checked Num BadNumber (1 + prefix_len is_digit bs) (b ∷ bs)) (mark_of (mark_len (b ∷ bs)))
+    (λ n7. branch P (nat_eq b 45 && begins_with is_digit bs) (checked Num BadNumber (1 + prefix_len is_digit bs) (b ∷ bs)) (mark_front (mark_len (b ∷ bs)))
     (λ e. let parts = and_parts (nat_eq b 45) (begins_with is_digit bs) e in
     subst (λ x. Keeps (suc j) (front_of (x ∷ take j bs)) (checked Num BadNumber (1 + prefix_len is_digit bs) (x ∷ bs))) (sym (eqb-true b 45 parts.0)) (negative_kept j bs parts.1))
     (λ n8. mark_kept (mark_len (b ∷ bs)) (mark_len (b ∷ take j bs)) (suc j) again

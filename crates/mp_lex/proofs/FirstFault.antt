@@ -13,7 +13,7 @@ use Rattle.mp_lex.specs.declared.front.Front.{Front}
 use Rattle.mp_lex.specs.declared.front.Front.TheVariants as front
 use Rattle.mp_lex.specs.Bytes.{is_small, is_cap, is_digit, is_word, is_blank, is_comment, is_opening}
 use Rattle.mp_lex.specs.Forms.{is_text}
-use Rattle.mp_lex.specs.Lex.{Reading, checked, string_len, mark_len, mark_of, ended_comment, comment_of, variable_of, begins_with, depth_after, front_of, go_on, lex, lex_from, with_front}
+use Rattle.mp_lex.specs.Lex.{Lexing, checked, string_len, mark_len, mark_front, ended_comment, comment_of, variable_of, begins_with, depth_after, front_of, go_on, lex, lex_from, with_front}
 use Rattle.mp_lex.proofs.Cuts.{Keeps, kept, prefix_take}
 use Rattle.mp_lex.proofs.Found.{IsRight, branch, found_right}
 
@@ -47,7 +47,7 @@ variable_leads bs =
     branch (Leads (39 ∷ bs)) (begins_with is_small bs) (checked SmallVar LongName n (39 ∷ bs)) _ (λ _. checked_leads SmallVar LongName n (39 ∷ bs))
     (λ _. branch (Leads (39 ∷ bs)) (begins_with is_cap bs) (checked CapVar LongName n (39 ∷ bs)) (front.Bad 0 BadByte) (λ _. checked_leads CapVar LongName n (39 ∷ bs)) (λ _. tt))
 
-mark_leads : (bytes : List ℕ) (n : ℕ) → Leads bytes (mark_of n)
+mark_leads : (bytes : List ℕ) (n : ℕ) → Leads bytes (mark_front n)
 mark_leads bytes zero = tt
 mark_leads bytes (suc n) = tt
 
@@ -63,7 +63,7 @@ leads b bs =
     (λ _. branch P (nat_eq b 35) (comment_of bs) _ (λ e. subst (λ x. Leads (x ∷ bs) (comment_of bs)) (sym (eqb-true b 35 e)) (comment_leads bs (drop (prefix_len is_comment bs) bs)))
     (λ _. branch P (nat_eq b 39) (variable_of (b ∷ bs) bs) _ (λ e. subst (λ x. Leads (x ∷ bs) (variable_of (x ∷ bs) bs)) (sym (eqb-true b 39 e)) (variable_leads bs))
     (λ _. branch P (nat_eq b 34) (checked Str BadString (1 + string_len false bs) (b ∷ bs)) _ (λ _. checked_leads Str BadString (1 + string_len false bs) (b ∷ bs))
-    (λ _. branch P (nat_eq b 45 && begins_with is_digit bs) (checked Num BadNumber (1 + prefix_len is_digit bs) (b ∷ bs)) (mark_of (mark_len (b ∷ bs)))
+    (λ _. branch P (nat_eq b 45 && begins_with is_digit bs) (checked Num BadNumber (1 + prefix_len is_digit bs) (b ∷ bs)) (mark_front (mark_len (b ∷ bs)))
     (λ _. checked_leads Num BadNumber (1 + prefix_len is_digit bs) (b ∷ bs)) (λ _. mark_leads (b ∷ bs) (mark_len (b ∷ bs))))))))))
 
 -- the bytes up to the place of the fault have tokens
@@ -80,7 +80,7 @@ passed_over zero depth at (b ∷ bs) h = absurd (omega (arith, h))
 passed_over (suc k) depth at (b ∷ bs) h = passed_over k depth (at + 1) bs (omega (arith, h))
 
 -- the place of a fault
-abbrev place_of : Reading → ℕ
+abbrev place_of : Lexing → ℕ
 place_of (Ok ts) = 0
 place_of (Err fault) = fault.0
 
@@ -101,7 +101,7 @@ module _ (at b : ℕ) (bs : List ℕ) (depth place : ℕ) (why : LexWhy)
       let next : place - at ≡ suc cut = omega (arith, le) in
       ap (λ k. lex_from 0 depth at (take k (b ∷ bs))) next ∙ ap (λ g. go_on g depth at b (λ n o. lex_from n o (at + 1) (take cut bs))) e
 
-  with_token : (kind : Kind) (len : ℕ) → front_of (b ∷ bs) ≡ front.Token kind len → 0 < len → len ≤ length (b ∷ bs) → (is_opening b && nat_le 250 depth) ≡ false → (r : Reading)
+  with_token : (kind : Kind) (len : ℕ) → front_of (b ∷ bs) ≡ front.Token kind len → 0 < len → len ≤ length (b ∷ bs) → (is_opening b && nat_le 250 depth) ≡ false → (r : Lexing)
       → lex_from (len - 1) (depth_after depth b) (at + 1) bs ≡ r → with_front (record { kind = kind; from = at; to = at + len } ∷ []) r ≡ Err (place, why) → HasTokensBefore 0 depth at (b ∷ bs) place
   unfolding cut
   with_token kind len e pos most shallow (Ok us) f g = absurd cc
@@ -175,4 +175,4 @@ pub before_fault : (source : List ℕ) (place : ℕ) (why : LexWhy) → lex sour
 before_fault source place why e =
     let h = tokens_before source 0 0 0 place why (omega arith) e in
     let all : place - 0 ≡ place = omega arith in
-    (omega (arith, h.within), ap (λ n. is_ok (lex (take n source))) (sym all) ∙ ap (λ (r : Reading). is_ok r) h.reads)
+    (omega (arith, h.within), ap (λ n. is_ok (lex (take n source))) (sym all) ∙ ap (λ (r : Lexing). is_ok r) h.reads)

@@ -15,7 +15,7 @@ use Rattle.mp_lex.specs.declared.front.Front.{Front}
 use Rattle.mp_lex.specs.declared.front.Front.TheVariants as front
 use Rattle.mp_lex.specs.Bytes.{is_small, is_cap, is_digit, is_word, is_blank, is_comment, is_opening, is_closing, is_single_mark}
 use Rattle.mp_lex.specs.Forms.{is_mark, is_text}
-use Rattle.mp_lex.specs.Lex.{checked, string_len, mark_len, mark_of, ended_comment, comment_of, variable_of, begins_with, front_of}
+use Rattle.mp_lex.specs.Lex.{checked, string_len, mark_len, mark_front, ended_comment, comment_of, variable_of, begins_with, front_of}
 use Rattle.mp_lex.specs.Spans.{only_separators}
 use Rattle.mp_lex.proofs.Runs.{take_next}
 use Rattle.mp_lex.proofs.Fronts.{word_run, small_word, cap_word, yes, no}
@@ -123,7 +123,7 @@ abbrev IsMarkLen : List ℕ → ℕ → Type 0
 IsMarkLen bytes zero = Unit {0}
 IsMarkLen bytes (suc n) = (suc n ≤ length bytes) × (is_mark (take (suc n) bytes) ≡ true)
 
-mark_right : (bytes : List ℕ) (n : ℕ) → IsMarkLen bytes n → IsRight bytes (mark_of n)
+mark_right : (bytes : List ℕ) (n : ℕ) → IsMarkLen bytes n → IsRight bytes (mark_front n)
 mark_right bytes zero h = tt
 mark_right bytes (suc n) h = record { some = omega arith; within = h.0; form = h.1 }
 
@@ -175,6 +175,6 @@ found_right b bs =
     (λ _. branch P (nat_eq b 35) (comment_of bs) _ (λ e. subst (λ x. IsRight (x ∷ bs) (comment_of bs)) (sym (eqb-true b 35 e)) (comment_right bs))
     (λ _. branch P (nat_eq b 39) (variable_of (b ∷ bs) bs) _ (λ e. subst (λ x. IsRight (x ∷ bs) (variable_of (x ∷ bs) bs)) (sym (eqb-true b 39 e)) (variable_right bs))
     (λ _. branch P (nat_eq b 34) (checked Str BadString (1 + string_len false bs) (b ∷ bs)) _ (λ _. checked_right Str BadString (1 + string_len false bs) (b ∷ bs) (omega arith) (omega (arith, string_len-le false bs)))
-    (λ _. branch P (nat_eq b 45 && begins_with is_digit bs) (checked Num BadNumber (1 + prefix_len is_digit bs) (b ∷ bs)) (mark_of (mark_len (b ∷ bs)))
+    (λ _. branch P (nat_eq b 45 && begins_with is_digit bs) (checked Num BadNumber (1 + prefix_len is_digit bs) (b ∷ bs)) (mark_front (mark_len (b ∷ bs)))
     (λ _. checked_right Num BadNumber (1 + prefix_len is_digit bs) (b ∷ bs) (omega arith) (omega (arith, prefix_len-le-length is_digit bs)))
     (λ _. mark_right (b ∷ bs) (mark_len (b ∷ bs)) (mark_len_right b bs)))))))))

@@ -8,7 +8,7 @@ use Rattle.mp_lex.specs.declared.front.Front.{Front}
 use Rattle.mp_lex.specs.declared.front.Front.TheVariants as front
 use Rattle.mp_lex.specs.Bytes.{is_opening}
 use Rattle.mp_lex.specs.Forms.{is_text}
-use Rattle.mp_lex.specs.Lex.{Reading, depth_after, front_of, go_on, lex, lex_from, with_front}
+use Rattle.mp_lex.specs.Lex.{Lexing, depth_after, front_of, go_on, lex, lex_from, with_front}
 use Rattle.mp_lex.specs.Spans.{AreSeparated, EachToken, HasItsKind, InOrder, IsLongest, IsSpan, only_separators}
 use Rattle.mp_lex.proofs.Found.{ArePassed, IsRight, IsToken, found_right}
 use Rattle.mp_lex.proofs.Longest.{longest}
@@ -67,7 +67,7 @@ module _ (source : List ℕ) (at b : ℕ) (bs : List ℕ) (cut : drop at source 
   further : (n o : ℕ) (us : List Token) → 0 < n → n ≤ length (b ∷ bs) → lex_from (n - 1) o (at + 1) bs ≡ Ok us → AreTokens source (at + n) us
   further n o us pos most e = let to : at + 1 + (n - 1) ≡ at + n = omega (arith, pos) in subst (λ k. AreTokens source k us) to (behind (n - 1) o us (omega (arith, most, pos)) e)
 
-  with_token : (kind : Kind) (len : ℕ) → front_of (b ∷ bs) ≡ front.Token kind len → IsToken (b ∷ bs) kind len → (r : Reading) → lex_from (len - 1) (depth_after depth b) (at + 1) bs ≡ r
+  with_token : (kind : Kind) (len : ℕ) → front_of (b ∷ bs) ≡ front.Token kind len → IsToken (b ∷ bs) kind len → (r : Lexing) → lex_from (len - 1) (depth_after depth b) (at + 1) bs ≡ r
       → with_front (record { kind = kind; from = at; to = at + len } ∷ []) r ≡ Ok ts → AreTokens source at ts
   with_token kind len e found (Ok us) f g =
       let t : Token = record { kind = kind; from = at; to = at + len } in

@@ -14,8 +14,8 @@ use Rattle.mp_lex.specs.declared.token.LexWhy.TheVariants.{LongName, BadNumber, 
 use Rattle.mp_lex.specs.declared.front.Front.{Front}
 use Rattle.mp_lex.specs.declared.front.Front.TheVariants as front
 use Rattle.mp_lex.specs.Bytes.{is_small, is_cap, is_digit, is_word, is_printed}
-use Rattle.mp_lex.specs.Forms.{closes, is_mark, is_name, is_negative, is_number, is_positive, is_string, is_text, is_variable, marks, value_of}
-use Rattle.mp_lex.specs.Lex.{checked, string_len, mark_of, variable_of, front_of}
+use Rattle.mp_lex.specs.Forms.{closes, is_mark, is_name, is_negative, is_number, is_positive, is_string, is_text, is_variable_text, marks, number_of_digits}
+use Rattle.mp_lex.specs.Lex.{checked, string_len, mark_front, variable_of, front_of}
 use Rattle.mp_lex.proofs.Found.{branch, either}
 use Rattle.mp_lex.proofs.Fronts.{cap_word, no, small_word, word_run, yes}
 
@@ -107,7 +107,7 @@ at_byte : (b c n : ℕ) (bs : List ℕ) → nat_eq b c ≡ true → Covers n (fr
 at_byte b c n bs e h = subst (λ x. Covers n (front_of (x ∷ bs))) (sym (eqb-true b c e)) h
 
 covers_variable : (begins : ℕ → Bool) → ((n : ℕ) (bs : List ℕ) → n ≤ length bs → is_name begins (take n bs) ≡ true → Covers (suc n) (variable_of (39 ∷ bs) bs))
-    → (n : ℕ) (bytes : List ℕ) → n ≤ length bytes → is_variable begins (take n bytes) ≡ true → Covers n (front_of bytes)
+    → (n : ℕ) (bytes : List ℕ) → n ≤ length bytes → is_variable_text begins (take n bytes) ≡ true → Covers n (front_of bytes)
 covers_variable begins name zero bytes h e = absurd (true≢false (sym e))
 covers_variable begins name (suc n) [] h e = absurd (omega (arith, h))
 covers_variable begins name (suc n) (b ∷ bs) h e =
@@ -118,7 +118,7 @@ covers_negative : (n : ℕ) (bytes : List ℕ) → n ≤ length bytes → is_neg
 covers_negative zero bytes h e = absurd (true≢false (sym e))
 covers_negative (suc n) [] h e = absurd (omega (arith, h))
 covers_negative (suc n) (b ∷ bs) h e =
-    let parts = and_parts (nat_eq b 45 && is_positive (take n bs)) (nat_le (value_of (take n bs)) 9223372036854775808) e in
+    let parts = and_parts (nat_eq b 45 && is_positive (take n bs)) (nat_le (number_of_digits (take n bs)) 9223372036854775808) e in
     let inner = and_parts (nat_eq b 45) (is_positive (take n bs)) parts.0 in
     at_byte b 45 (suc n) bs inner.0 (behind_minus n bs (omega (arith, h)) inner.1)
   where
@@ -145,9 +145,9 @@ covers_zero (suc n) bytes h e =
 covers_number : (n : ℕ) (bytes : List ℕ) → n ≤ length bytes → is_number (take n bytes) ≡ true → Covers n (front_of bytes)
 covers_number n bytes h =
     let xs = take n bytes in
-    either (pointwise nat_eq (codes "0") xs || (is_positive xs && nat_lt (value_of xs) 9223372036854775808)) (is_negative xs)
-    (either (pointwise nat_eq (codes "0") xs) (is_positive xs && nat_lt (value_of xs) 9223372036854775808) (covers_zero n bytes h)
-    (λ e. covers_positive n bytes h (and_parts (is_positive xs) (nat_lt (value_of xs) 9223372036854775808) e).0))
+    either (pointwise nat_eq (codes "0") xs || (is_positive xs && nat_lt (number_of_digits xs) 9223372036854775808)) (is_negative xs)
+    (either (pointwise nat_eq (codes "0") xs) (is_positive xs && nat_lt (number_of_digits xs) 9223372036854775808) (covers_zero n bytes h)
+    (λ e. covers_positive n bytes h (and_parts (is_positive xs) (nat_lt (number_of_digits xs) 9223372036854775808) e).0))
     (covers_negative n bytes h)
 
 covers_closed : (escaped : Bool) (n : ℕ) (bs : List ℕ) → n ≤ length bs → closes escaped (take n bs) ≡ true → n ≤ string_len escaped bs
@@ -188,12 +188,12 @@ covers_any (m ∷ ms) each n bytes h e =
     (covers_any ms each.1 n bytes h) e
 
 abbrev MarkCovers : ℕ → ℕ → Type 0
-MarkCovers n k = Covers n (mark_of k)
+MarkCovers n k = Covers n (mark_front k)
 
 -- a mark with which a longer one begins
-short : (n : ℕ) (rest tail : List ℕ) → 0 < n → Covers 1 (mark_of (if starts_with nat_eq rest tail then n else 1))
+short : (n : ℕ) (rest tail : List ℕ) → 0 < n → Covers 1 (mark_front (if starts_with nat_eq rest tail then n else 1))
 short zero rest tail pos = absurd (omega (arith, pos))
-short (suc n) rest tail pos = branch (λ k. Covers 1 (mark_of k)) (starts_with nat_eq rest tail) (suc n) 1 (λ _. omega arith) (λ _. omega arith)
+short (suc n) rest tail pos = branch (λ k. Covers 1 (mark_front k)) (starts_with nat_eq rest tail) (suc n) 1 (λ _. omega arith) (λ _. omega arith)
 
 each_mark : EachFound marks
 each_mark =

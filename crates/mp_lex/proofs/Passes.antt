@@ -10,7 +10,7 @@ use Rattle.mp_lex.specs.declared.token.LexWhy.TheVariants.{TooNested}
 use Rattle.mp_lex.specs.declared.front.Front.{Front}
 use Rattle.mp_lex.specs.declared.front.Front.TheVariants as front
 use Rattle.mp_lex.specs.Bytes.{is_closing, is_opening}
-use Rattle.mp_lex.specs.Lex.{Reading, depth_after, front_of, go_on, lex, lex_from, with_front}
+use Rattle.mp_lex.specs.Lex.{Lexing, depth_after, front_of, go_on, lex, lex_from, with_front}
 
 -- the bytes of what was found are passed over
 pub skipped : (n depth at : ℕ) (bs : List ℕ) → n ≤ length bs → lex_from n depth at bs ≡ lex_from 0 depth (at + n) (drop n bs)
@@ -62,7 +62,7 @@ module _ (source : List ℕ) (at depth : ℕ) (lt : at < length source) where
       ∙ ap (λ s. if s then Err (at, TooNested) else with_front (t ∷ []) (lex_from (len - 1) (depth_after depth b) (at + 1) bs)) deep
       ∙ ap (with_front (t ∷ [])) (behind len (depth_after depth b) pos most)
 
-pub front_push : (ts : List Token) (t : Token) (r : Reading) → with_front (ts ++ t ∷ []) r ≡ with_front ts (with_front (t ∷ []) r)
+pub front_push : (ts : List Token) (t : Token) (r : Lexing) → with_front (ts ++ t ∷ []) r ≡ with_front ts (with_front (t ∷ []) r)
 front_push ts t (Ok us) = let e : (ts ++ t ∷ []) ++ us ≡ ts ++ t ∷ us = append_assoc ts (t ∷ []) us in ap (λ (xs : List Token). Ok xs) e
 front_push ts t (Err e) = refl
 

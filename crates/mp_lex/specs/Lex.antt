@@ -10,25 +10,27 @@ use Rattle.mp_lex.specs.declared.token.LexFail.{LexFail}
 use Rattle.mp_lex.specs.declared.token.LexFail.TheVariants as fail
 use Rattle.mp_lex.specs.declared.front.Front.{Front}
 use Rattle.mp_lex.specs.declared.front.Front.TheVariants as front
+use Rattle.mp_lex.specs.declared.limits.TheConstants.{MOST_OPEN}
 use Rattle.mp_lex.specs.Bytes.{is_small, is_cap, is_digit, is_word, is_blank, is_comment, is_opening, is_closing, is_single_mark}
 use Rattle.mp_lex.specs.Forms.{is_text}
 
--- a token of this kind where the bytes that go together are a text of the kind, and else the fault
+-- a token of this kind if the bytes that go together are a text of the kind, and else the fault
 abbrev pub checked : Kind → LexWhy → ℕ → List ℕ → Front
 checked kind why n bytes = if is_text kind (take n bytes) then front.Token kind n else front.Bad 0 why
 
--- whether the text begins with a byte of this class
+-- whether a text begins with a byte of this class
 abbrev pub begins_with : (ℕ → Bool) → List ℕ → Bool
 begins_with test [] = false
 begins_with test (b ∷ bs) = test b
 
--- how many bytes from an opening quote's end up to and with the closing one, or to the end; whether a `\` is before
+-- how many bytes a string has after its opening quote, up to and with the closing one or to the end; the first argument says whether a
+-- `\` is before them
 abbrev pub string_len : Bool → List ℕ → ℕ
 string_len escaped [] = 0
 string_len true (b ∷ bs) = 1 + string_len false bs
 string_len false (b ∷ bs) = if nat_eq b 34 then 1 else 1 + string_len (nat_eq b 92) bs
 
--- the length of the longest mark at the front, or 0
+-- the length of the longest mark at the front of a text, or 0
 abbrev pub mark_len : List ℕ → ℕ
 mark_len [] = 0
 mark_len (b ∷ bs) =
@@ -39,19 +41,21 @@ mark_len (b ∷ bs) =
     else if nat_eq b 45 then (if starts_with nat_eq bs (codes "->") then 3 else 0)
     else (if is_single_mark b then 1 else 0)
 
-abbrev pub mark_of : ℕ → Front
-mark_of zero = front.Bad 0 BadByte
-mark_of (suc n) = front.Token Mark (suc n)
+-- a mark of this length, or a fault if it has no byte
+abbrev pub mark_front : ℕ → Front
+mark_front zero = front.Bad 0 BadByte
+mark_front (suc n) = front.Token Mark (suc n)
 
--- a comment goes on to the end of its line or of the text; what is behind the bytes that it may have decides
+-- a comment goes on to the end of its line or of the text: what comes after the bytes that it may have decides
 abbrev pub ended_comment : ℕ → List ℕ → Front
 ended_comment n [] = front.Passed n
 ended_comment n (b ∷ bs) = if nat_eq b 10 then front.Passed (n + 1) else front.Bad n BadByte
 
+-- what a comment is, from the bytes after its `#`
 abbrev pub comment_of : List ℕ → Front
 comment_of bytes = let n = prefix_len is_comment bytes in ended_comment (1 + n) (drop n bytes)
 
--- `'` with the letters, digits and `_` behind it
+-- what stands at a `'`, with the letters, digits and `_` after it
 abbrev pub variable_of : List ℕ → List ℕ → Front
 variable_of bytes rest =
     if begins_with is_small rest then checked SmallVar LongName (1 + prefix_len is_word rest) bytes
@@ -70,19 +74,20 @@ front_of (b ∷ bs) =
     else if nat_eq b 39 then variable_of (b ∷ bs) bs
     else if nat_eq b 34 then checked Str BadString (1 + string_len false bs) (b ∷ bs)
     else if nat_eq b 45 && begins_with is_digit bs then checked Num BadNumber (1 + prefix_len is_digit bs) (b ∷ bs)
-    else mark_of (mark_len (b ∷ bs))
+    else mark_front (mark_len (b ∷ bs))
 
--- what is found takes a byte at least, and no more than so many
+-- what is found at the front of a text takes a byte at least, and no more than so many
 abbrev pub IsWithin : ℕ → Front → Type 0
 IsWithin most (front.Passed len) = (0 < len) × (len ≤ most)
 IsWithin most (front.Token kind len) = (0 < len) × (len ≤ most)
 IsWithin most (front.Bad ahead why) = ahead ≤ most
 
--- the tokens, or the place of the first fault and what it is; it is a function of the text, so each text has exactly one of the two
-abbrev pub Reading : Type 0
-Reading = Result (List Token) (ℕ × LexWhy)
+-- the tokens of a text, or the place of its first fault and what it is; it is a function of the text, so each text has exactly one of the two
+abbrev pub Lexing : Type 0
+Lexing = Result (List Token) (ℕ × LexWhy)
 
-abbrev pub with_front : List Token → Reading → Reading
+-- a reading with these tokens before its own; a fault stays
+abbrev pub with_front : List Token → Lexing → Lexing
 with_front before (Ok ts) = Ok (before ++ ts)
 with_front before (Err fault) = Err fault
 
@@ -90,30 +95,30 @@ with_front before (Err fault) = Err fault
 abbrev pub depth_after : ℕ → ℕ → ℕ
 depth_after depth b = if is_opening b then depth + 1 else if is_closing b then depth - 1 else depth
 
--- how the reading goes on: what is found, the open brackets, the place, its byte, and the reading with so many further bytes passed over
-abbrev pub go_on : Front → ℕ → ℕ → ℕ → (ℕ → ℕ → Reading) → Reading
+-- how a reading goes on after what is found at a place: from the open brackets, the place, its byte, and the reading with so many further bytes passed over
+abbrev pub go_on : Front → ℕ → ℕ → ℕ → (ℕ → ℕ → Lexing) → Lexing
 go_on (front.Passed len) depth at b go = go (len - 1) depth
 go_on (front.Bad ahead why) depth at b go = Err (at + ahead, why)
 go_on (front.Token kind len) depth at b go =
-    if is_opening b && nat_le 250 depth then Err (at, TooNested)
+    if is_opening b && nat_le MOST_OPEN depth then Err (at, TooNested)
     else with_front (record { kind = kind; from = at; to = at + len } ∷ []) (go (len - 1) (depth_after depth b))
 
 -- the reading from a place on: so many bytes belong to what was found before, and so many brackets are open
-abbrev pub lex_from : ℕ → ℕ → ℕ → List ℕ → Reading
+abbrev pub lex_from : ℕ → ℕ → ℕ → List ℕ → Lexing
 lex_from skip depth at [] = Ok []
 lex_from (suc k) depth at (b ∷ bs) = lex_from k depth (at + 1) bs
 lex_from zero depth at (b ∷ bs) = go_on (front_of (b ∷ bs)) depth at b (λ n o. lex_from n o (at + 1) bs)
 
 -- the reading of a whole text
-abbrev pub lex : List ℕ → Reading
+abbrev pub lex : List ℕ → Lexing
 lex source = lex_from 0 0 0 source
 
--- the bytes of a token
-abbrev pub text_of : List ℕ → Token → List ℕ
-text_of source t = take (t.to - t.from) (drop t.from source)
+-- the bytes of a token in its text
+abbrev pub token_text : List ℕ → Token → List ℕ
+token_text source t = take (t.to - t.from) (drop t.from source)
 
--- what is answered is what the text gives, unless memory ran out
-abbrev pub Gives : Reading → Result (List Token) LexFail → Type 0
+-- a lexer's answer is the reading of the text, or want of memory
+abbrev pub Gives : Lexing → Result (List Token) LexFail → Type 0
 Gives reading (Ok ts) = reading ≡ Ok ts
 Gives reading (Err (fail.Bad at why)) = reading ≡ Err (at, why)
 Gives reading (Err fail.NoMemory) = Unit {0}

@@ -6,9 +6,9 @@ use Rattle.mp_lex.specs.declared.token.LexFail.{LexFail}
 use Rattle.mp_lex.specs.declared.token.LexFail.TheVariants as fail
 use Rattle.mp_lex.specs.Bytes.{is_blank, is_comment}
 use Rattle.mp_lex.specs.Forms.{is_text}
-use Rattle.mp_lex.specs.Lex.{lex, text_of}
+use Rattle.mp_lex.specs.Lex.{lex, token_text}
 
--- each token of the list is so
+-- each token of a list has this
 abbrev pub EachToken : (Token → Type 0) → List Token → Type 0
 EachToken P ts = (i : ℕ) (t : Token) → slice_get ts i ≡ Some t → P t
 
@@ -19,28 +19,29 @@ pub record IsSpan (source : List ℕ) (t : Token) : Type 0 where
 
 -- a token's text is of its kind
 abbrev pub HasItsKind : List ℕ → Token → Type 0
-HasItsKind source t = IsTrue (is_text t.kind (text_of source t))
+HasItsKind source t = IsTrue (is_text t.kind (token_text source t))
 
 -- no longer token of any kind begins at the token's place
 abbrev pub IsLongest : List ℕ → Token → Type 0
 IsLongest source t = (kind : Kind) (n : ℕ) → t.to - t.from < n → n ≤ length (drop t.from source) → is_text kind (take n (drop t.from source)) ≡ false
 
--- tokens end before later ones begin
+-- the tokens of a list are in order: each ends before later ones begin
 abbrev pub InOrder : List Token → Type 0
 InOrder ts = (i j : ℕ) (s t : Token) → i < j → slice_get ts i ≡ Some s → slice_get ts j ≡ Some t → s.to ≤ t.from
 
--- separators and comments only, and whether it goes on in a comment; a comment is closed by its newline, or, where `last` says so, by the end
+-- bytes are separators and comments only, and `commented` says whether they begin in a comment; a comment is closed by its newline or, if
+-- `last` says that the text ends there, by the end
 abbrev pub only_separators : Bool → Bool → List ℕ → Bool
 only_separators last commented [] = last || not commented
 only_separators last true (b ∷ bs) = if nat_eq b 10 then only_separators last false bs else is_comment b && only_separators last true bs
 only_separators last false (b ∷ bs) = if nat_eq b 35 then only_separators last true bs else is_blank b && only_separators last false bs
 
--- from this place on, only separators and comments stand before, between and behind the tokens
+-- from this place on, only separators and comments stand before, between and after the tokens
 abbrev pub AreSeparated : List ℕ → ℕ → List Token → Type 0
 AreSeparated source from [] = IsTrue (only_separators true false (drop from source))
 AreSeparated source from (t ∷ ts) = IsTrue (only_separators false false (take (t.from - from) (drop from source))) × AreSeparated source t.to ts
 
--- the fault is the first one: what stands before its place has none
+-- a fault is the first one of its text: what stands before its place has none
 abbrev pub IsFirstFault : List ℕ → LexFail → Type 0
 IsFirstFault source (fail.Bad at why) = (at ≤ length source) × IsOk (lex (take at source))
 IsFirstFault source fail.NoMemory = Unit {0}

@@ -16,7 +16,7 @@ pub(crate) fn cap(b: u8) -> bool
 }
 
 /// Whether it is a digit.
-pub(crate) fn digit(b: u8) -> bool
+pub fn digit(b: u8) -> bool
     ensures { result ≡ is_digit b }
 {
     b'0' <= b && b <= b'9'

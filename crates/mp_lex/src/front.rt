@@ -3,10 +3,11 @@ ghost use Rattle.std.specs.List.{list_all, prefix_len};
 ghost use Rattle.mp_lex.specs.declared.token.Kind.TheVariants.{Str, Num};
 ghost use Rattle.mp_lex.specs.declared.token.LexWhy.TheVariants.{LongName, BadString, BadNumber};
 ghost use Rattle.mp_lex.specs.Bytes.{is_small, is_cap, is_digit, is_word, is_comment};
-ghost use Rattle.mp_lex.specs.Forms.{is_number, value_of};
-ghost use Rattle.mp_lex.specs.Lex.{checked, string_len, mark_len, mark_of, comment_of, variable_of, front_of, begins_with, IsWithin};
+ghost use Rattle.mp_lex.specs.Forms.{is_number, number_of_digits};
+ghost use Rattle.mp_lex.specs.Lex.{checked, string_len, mark_len, mark_front, comment_of, variable_of, front_of, begins_with, IsWithin};
 
 use crate::byte::{blank, cap, comment, digit, printed, single_mark, small, word};
+use crate::limits::{LONGEST_NAME, LONGEST_STRING};
 use crate::{Kind, LexWhy};
 
 /// What stands at a place of a text.
@@ -19,10 +20,6 @@ pub(crate) enum Front {
     /// A fault, so many bytes further on.
     Bad { ahead: usize, why: LexWhy },
 }
-
-const LONGEST_NAME: usize = 64;
-
-const LONGEST_STRING: usize = 256;
 
 /// What stands at the front of the text; BadByte where it is empty.
 pub(crate) fn look(bytes: &[u8]) -> Front
@@ -63,7 +60,7 @@ fn bad(why: LexWhy) -> Front
 /// A name of so many bytes after a quote or nothing.
 fn name(kind: Kind, quote: usize, len: usize) -> Front
     requires { quote + len < 2 ^ 64 }
-    ensures { result ≡ (if nat_le len 64 then Front.Token kind (quote + len) else Front.Bad 0 LongName) }
+    ensures { result ≡ (if nat_le len LONGEST_NAME then Front.Token kind (quote + len) else Front.Bad 0 LongName) }
 {
     if len <= LONGEST_NAME {
         Front::Token {
@@ -159,8 +156,8 @@ fn begins_with_digit(bytes: &[u8]) -> bool
 }
 
 /// The number that the digits write; it stops at the greatest `u64`.
-fn value(digits: &[u8]) -> u64
-    ensures { result ≡ min (value_of digits.now) 18446744073709551615 }
+pub fn digits_value(digits: &[u8]) -> u64
+    ensures { result ≡ min (number_of_digits digits.now) 18446744073709551615 }
 {
     let mut total = 0u64;
     for b in digits {
@@ -180,9 +177,9 @@ fn fits(negative: bool, digits: &[u8]) -> bool
     if digits[0] == b'0' {
         digits.len() == 1 && !negative
     } else if negative {
-        value(digits) <= 1 << 63
+        digits_value(digits) <= 1 << 63
     } else {
-        value(digits) < 1 << 63
+        digits_value(digits) < 1 << 63
     }
 }
 
@@ -246,7 +243,7 @@ fn string(rest: &[u8]) -> Front
 /// A string with so many bytes between its quotes.
 fn closed(len: usize) -> Front
     requires { len + 2 < 2 ^ 64 }
-    ensures { result ≡ (if nat_le len 256 then Front.Token Str (len + 2) else Front.Bad 0 BadString) }
+    ensures { result ≡ (if nat_le len LONGEST_STRING then Front.Token Str (len + 2) else Front.Bad 0 BadString) }
 {
     if len <= LONGEST_STRING {
         Front::Token {
@@ -275,7 +272,7 @@ fn mark_len(first: u8, rest: &[u8]) -> usize
 
 /// A mark that begins with this byte before these.
 fn mark(first: u8, rest: &[u8]) -> Front
-    ensures value { result ≡ mark_of (mark_len (first ∷ rest.now)) }
+    ensures value { result ≡ mark_front (mark_len (first ∷ rest.now)) }
     ensures within { IsWithin (1 + length rest.now) result }
 {
     let len = mark_len(first, rest);

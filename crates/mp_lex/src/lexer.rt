@@ -5,12 +5,10 @@ ghost use Rattle.mp_lex.specs.Spans.{EachToken, IsSpan, HasItsKind, IsLongest, I
 
 use crate::byte::{closing, opening};
 use crate::front::{Front, look};
+use crate::limits::MOST_OPEN;
 use crate::{LexFail, LexWhy, Token};
 use mp_logic::List;
 use std::alloc::Global;
-
-/// The greatest number of brackets that may be open.
-const DEEPEST: u64 = 250;
 
 /// The tokens of the text in order, or its first lexical fault. It reads the text once, and takes memory
 /// for the list alone.
@@ -71,14 +69,14 @@ fn behind(source: &[u8], at: usize) -> &[u8]
 
 /// Whether the byte opens a bracket where as many are open as may be.
 fn too_deep(depth: u64, byte: u8) -> bool
-    ensures { result ≡ (is_opening byte && nat_le 250 depth) }
+    ensures { result ≡ (is_opening byte && nat_le MOST_OPEN depth) }
 {
-    opening(byte) && depth >= DEEPEST
+    opening(byte) && depth >= MOST_OPEN
 }
 
 /// How many brackets are open after a byte.
 fn after(depth: u64, byte: u8) -> u64
-    requires { depth ≤ 250 }
+    requires { depth ≤ MOST_OPEN }
     ensures { result ≡ depth_after depth byte }
 {
     if opening(byte) {

@@ -8,7 +8,7 @@ mod sym;
 mod tree;
 mod waiting;
 
-pub use list::{List, Text, item_at};
+pub use list::{List, Text};
 pub use logic::{Logic, StepErr, Why, copy_tree};
 pub use memory::NoMemory;
 pub use sym::Sym;

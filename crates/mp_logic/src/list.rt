@@ -113,10 +113,3 @@ impl<T> List<T> {
         self.items.pop()
     }
 }
-
-/// The item of a slice at this place, with the answer as one equation.
-pub fn item_at<T>(items: &[T], at: usize) -> Option<&T>
-    ensures { option_copied result ≡ slice_get items.now at }
-{
-    items.get(at)
-}

@@ -81,7 +81,7 @@ number_kept [] more at name h = absurd cc
 number_kept (n ∷ names) more zero name h = h
 number_kept (n ∷ names) more (suc at) name h = number_kept names more at name h
 
--- behind the front's end only the name at the end has a number
+-- from the front's end on only the last name has a number
 last_number : (names : List (List ℕ)) (last : List ℕ) (at : ℕ) (name : List ℕ) → HasNumber (names ++ last ∷ []) at name → HasNumber names at name ⊎ ((at ≡ length names) × (name ≡ last))
 last_number [] last zero name h = inr (refl, cc)
 last_number [] last (suc at) name h = absurd cc
@@ -107,7 +107,3 @@ entered_distinct names name d = by (is_held names name) refl
         | inr h ↦ g.0 ∙ sym h.0
       ]
     ]
-
--- the empty table has no name twice
-pub empty_distinct : AreDistinct []
-empty_distinct i j name p q = absurd cc

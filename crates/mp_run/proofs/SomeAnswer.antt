@@ -2,7 +2,7 @@
 use Rattle.std.proofs.Common.{◌≡◌, ◌⊎◌, inl, inr, ℕ, ◌<◌, ◌≤◌, List, [], map, length, Option, Some, None, Ok, Err, IfSome, IsSome, refl}
 use Rattle.std.proofs.lemmas.Bool.{cases_lt}
 use Rattle.mp_lex.specs.declared.token.Token.{Token}
-use Rattle.mp_lex.specs.Lex.{Reading as Lexing, lex}
+use Rattle.mp_lex.specs.Lex.{Lexing, lex}
 use Rattle.mp_words.specs.declared.word.Word.{Word}
 use Rattle.mp_words.specs.declared.fault.Fault.{Fault}
 use Rattle.mp_words.specs.declared.fail.TextErr.{TextErr}

@@ -1,4 +1,4 @@
--- The test of a sequent's limits, taken apart into its four facts and put together again.
+-- The test of a sequent's limits, taken apart into its four facts.
 use Rattle.std.proofs.Common.{◌≤◌, List, [], ◌∷◌, All, zero, suc, refl, IsTrue, arith}
 use Rattle.std.specs.List.{list_all}
 use Rattle.std.proofs.lemmas.Bool.Decides.{nat_tests}
@@ -18,13 +18,6 @@ all_shallow (t ∷ ts) test =
       from_first ts t here rest zero d h = here
       from_first ts t here rest (suc k) d h = rest k d (omega arith)
 
-pub all_shallow_test : (ts : List Term) → All (λ t. depth_of t ≤ 200) ts → IsTrue (list_all is_shallow ts)
-all_shallow_test [] all = refl
-all_shallow_test (t ∷ ts) all =
-    let here : depth_of t ≤ 200 = all 0 t (omega arith) in
-    let rest = all_shallow_test ts (λ k d h. all (suc k) d (omega arith)) in
-    grind (arith, nat_tests, common_steps, rest)
-
 pub limits_facts : (s : Sequent) → IsTrue (within_limits_of s) → IsWithinLimits s
 limits_facts s test = record {
   few = grind (arith, nat_tests, common_steps);
@@ -32,8 +25,3 @@ limits_facts s test = record {
   shallow_end = grind (arith, nat_tests, common_steps);
   small = grind (arith, nat_tests, common_steps);
 }
-
-pub limits_test : (s : Sequent) → IsWithinLimits s → IsTrue (within_limits_of s)
-limits_test s facts =
-    let hyps = all_shallow_test s.hyps facts.shallow in
-    grind (arith, nat_tests, common_steps, hyps, facts.few, facts.shallow_end, facts.small)

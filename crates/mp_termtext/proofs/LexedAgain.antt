@@ -14,7 +14,7 @@ use Rattle.mp_lex.specs.declared.token.Kind.TheVariants as kind
 use Rattle.mp_lex.specs.declared.token.Token.{Token}
 use Rattle.mp_lex.specs.Bytes.{is_closing, is_digit, is_opening, is_small, is_word}
 use Rattle.mp_lex.specs.Forms.{is_name, is_number, is_text}
-use Rattle.mp_lex.specs.Lex.{Reading, begins_with, depth_after, lex, lex_from, string_len, text_of as bytes_of, with_front}
+use Rattle.mp_lex.specs.Lex.{Lexing, begins_with, depth_after, lex, lex_from, string_len, token_text as bytes_of, with_front}
 use Rattle.mp_lex.proofs.Whole.{Begins, digits_begin, drop_whole, negative_begins, read_whole, small_begins, string_begins, take_whole, variable_begins}
 use Rattle.mp_term.specs.declared.term.Param.{Param}
 use Rattle.mp_term.specs.declared.term.Param.TheVariants.{Num, Str}
@@ -43,11 +43,11 @@ abbrev pub Lexes : (List ℕ → Type 0) → ℕ → ℕ → ℕ → List ℕ �
 Lexes C i o most bytes ps = (before rest : List ℕ) (base : ℕ) → C rest → base + most ≤ 250
     → (ts : List Token) × (lex_from 0 (base + i) (length before) (bytes ++ rest) ≡ with_front ts (lex_from 0 (base + o) (length (before ++ bytes)) rest)) × (map (piece_of (before ++ (bytes ++ rest))) ts ≡ ps)
 
-fronts : (ts us : List Token) (r : Reading) → with_front ts (with_front us r) ≡ with_front (ts ++ us) r
+fronts : (ts us : List Token) (r : Lexing) → with_front ts (with_front us r) ≡ with_front (ts ++ us) r
 fronts ts us (Ok vs) = ap (λ (xs : List Token). Ok xs) (sym (append_assoc ts us vs))
 fronts ts us (Err e) = refl
 
-no_front : (r : Reading) → r ≡ with_front [] r
+no_front : (r : Lexing) → r ≡ with_front [] r
 no_front (Ok ts) = refl
 no_front (Err e) = refl
 

@@ -10,7 +10,7 @@ use Rattle.std.proofs.lemmas.Bool.Decides.{nat_tests}
 use Rattle.std.proofs.lemmas.Fmt.{decimal_digit, decimal_injective, decimal_is_IsNumeral, decimal_nonempty, digits_value-decimal, first_decimal, length-decimal-le}
 use Rattle.std.proofs.lemmas.Str.Parse.{IsDigitsTest, IsNumeralModel, FoldsDigits, numerals_by_fold}
 use Rattle.mp_lex.specs.Bytes.{is_digit, is_small, is_word}
-use Rattle.mp_lex.specs.Forms.{is_name, is_negative, is_number, is_positive, value_of}
+use Rattle.mp_lex.specs.Forms.{is_name, is_negative, is_number, is_positive, number_of_digits}
 use Rattle.mp_termtext.specs.Printing.{name_text}
 use Rattle.mp_termtext.specs.Round.{fits_i64}
 use Rattle.mp_words.specs.Words.{integer_of, minus, numbered_of}
@@ -40,11 +40,11 @@ value_folds = record {
   more = λ n c cs r. (let e : 10 * n + (c - 48) ≡ n * 10 + (c - 48) = omega arith in ap (λ m. value_after m cs) e);
 }
 
-numerals : IsNumeralModel AreDigits value_of
+numerals : IsNumeralModel AreDigits number_of_digits
 numerals = numerals_by_fold AreDigits digits_test value_after value_folds
 
 -- a number's digits write it
-pub value_of-decimal : (n : ℕ) → n < 2 ^ 64 → value_of (decimal n) ≡ n
+pub value_of-decimal : (n : ℕ) → n < 2 ^ 64 → number_of_digits (decimal n) ≡ n
 value_of-decimal n h = digits_value-decimal numerals n h
 
 pub digits_of-decimal : (n : ℕ) → n < 2 ^ 64 → list_all is_digit (decimal n) ≡ true
@@ -82,9 +82,9 @@ numbered-name_text l h =
     let ds = decimal (l + 1) in
     let wide : l + 1 < 2 ^ 64 = omega (arith, h) in
     let v = value_of-decimal (l + 1) wide in
-    let small : nat_lt (value_of ds) 4294967296 ≡ true = grind (arith, nat_tests, v, h) in
-    let test = and_from (nat_eq 120 120 && is_positive ds) (nat_lt (value_of ds) 4294967296) (and_from (nat_eq 120 120) (is_positive ds) refl (positive-decimal (l + 1) (omega arith) wide)) small in
-    ap (λ t. if t then Some (value_of ds) else None) test ∙ ap (λ (n : ℕ). Some n) v
+    let small : nat_lt (number_of_digits ds) 4294967296 ≡ true = grind (arith, nat_tests, v, h) in
+    let test = and_from (nat_eq 120 120 && is_positive ds) (nat_lt (number_of_digits ds) 4294967296) (and_from (nat_eq 120 120) (is_positive ds) refl (positive-decimal (l + 1) (omega arith) wide)) small in
+    ap (λ t. if t then Some (number_of_digits ds) else None) test ∙ ap (λ (n : ℕ). Some n) v
 
 -- levels have names of their own
 pub name_text-injective : (i j : ℕ) → i + 1 < 2 ^ 64 → j + 1 < 2 ^ 64 → name_text i ≡ name_text j → i ≡ j
@@ -93,9 +93,9 @@ name_text-injective i j a b e =
     let f = decimal_injective (i + 1) (j + 1) a b d in
     omega (arith, f)
 
-number_by : (ds : List ℕ) (n : ℕ) → is_positive ds ≡ true → value_of ds ≡ n → nat_lt n 9223372036854775808 ≡ true → is_number ds ≡ true
+number_by : (ds : List ℕ) (n : ℕ) → is_positive ds ≡ true → number_of_digits ds ≡ n → nat_lt n 9223372036854775808 ≡ true → is_number ds ≡ true
 number_by ds n p v h =
-    let e : is_positive ds && nat_lt (value_of ds) 9223372036854775808 ≡ true = and_from (is_positive ds) (nat_lt (value_of ds) 9223372036854775808) p (ap (λ m. nat_lt m 9223372036854775808) v ∙ h) in
+    let e : is_positive ds && nat_lt (number_of_digits ds) 9223372036854775808 ≡ true = and_from (is_positive ds) (nat_lt (number_of_digits ds) 9223372036854775808) p (ap (λ m. nat_lt m 9223372036854775808) v ∙ h) in
     ap (λ b. (pointwise nat_eq (codes "0") ds || b) || is_negative ds) e ∙ or_true (pointwise nat_eq (codes "0") ds) (is_negative ds)
   where
     or_true : (a c : Bool) → (a || true) || c ≡ true
@@ -105,11 +105,11 @@ number_by ds n p v h =
 not_minus : (b : ℕ) → is_digit b ≡ true → nat_eq b 45 ≡ false
 not_minus b h = let r = digit_in_range b h in let low = r.0 in grind (arith, nat_tests, low)
 
-integer_by : (ds : List ℕ) → list_all is_digit ds ≡ true → 0 < length ds → integer_of ds ≡ pos (value_of ds)
+integer_by : (ds : List ℕ) → list_all is_digit ds ≡ true → 0 < length ds → integer_of ds ≡ pos (number_of_digits ds)
 integer_by [] h some = absurd (omega (arith, some))
 integer_by (d ∷ ds) h some =
     let both = and_parts (is_digit d) (list_all is_digit ds) h in
-    ap (λ t. if t then minus (value_of ds) else pos (value_of (d ∷ ds))) (not_minus d both.0)
+    ap (λ t. if t then minus (number_of_digits ds) else pos (number_of_digits (d ∷ ds))) (not_minus d both.0)
 
 -- a number in decimal is a number, and the one that it is printed of
 pub is_number-signed_decimal : (z : ℤ) → fits_i64 z ≡ true → is_number (signed_decimal z) ≡ true
@@ -121,8 +121,8 @@ is_number-signed_decimal (negsuc n) h =
     let wide : suc n < 2 ^ 64 = grind (arith, nat_tests, h) in
     let ds = decimal (suc n) in
     let v = value_of-decimal (suc n) wide in
-    let most : nat_le (value_of ds) 9223372036854775808 ≡ true = grind (arith, nat_tests, v, h) in
-    and_from (nat_eq 45 45 && is_positive ds) (nat_le (value_of ds) 9223372036854775808) (and_from (nat_eq 45 45) (is_positive ds) refl (positive-decimal (suc n) (omega arith) wide)) most
+    let most : nat_le (number_of_digits ds) 9223372036854775808 ≡ true = grind (arith, nat_tests, v, h) in
+    and_from (nat_eq 45 45 && is_positive ds) (nat_le (number_of_digits ds) 9223372036854775808) (and_from (nat_eq 45 45) (is_positive ds) refl (positive-decimal (suc n) (omega arith) wide)) most
 
 pub integer_of-signed_decimal : (z : ℤ) → fits_i64 z ≡ true → integer_of (signed_decimal z) ≡ z
 integer_of-signed_decimal (pos n) h =

@@ -4,7 +4,7 @@ use Rattle.mp_names.specs.Table.{Extends}
 use Rattle.std.specs.Prelude.{length}
 use Rattle.mp_lex.specs.declared.token.Token.{Token}
 use Rattle.mp_lex.specs.declared.token.LexWhy.{LexWhy}
-use Rattle.mp_lex.specs.Lex.{Reading, lex}
+use Rattle.mp_lex.specs.Lex.{Lexing, lex}
 use Rattle.mp_words.specs.declared.word.Word.{Word}
 use Rattle.mp_words.specs.declared.fail.TextErr.{TextErr}
 use Rattle.mp_words.specs.declared.fail.TextFail.{TextFail}
@@ -19,13 +19,13 @@ use Rattle.mp_words.specs.Parts.{Fails, OneReading}
 use Rattle.mp_words.specs.Texts.{LexesText, words_in, of_lexical, error_at, stopped, IsText, IsFaulty, bad_token, stuck, broken, ReadsText, OneText}
 use Rattle.mp_words.proofs.Soonest.{least_is_least}
 
-some_tokens : (r : Reading) (ts us : List Token) → r ≡ Ok ts → r ≡ Ok us → ts ≡ us
+some_tokens : (r : Lexing) (ts us : List Token) → r ≡ Ok ts → r ≡ Ok us → ts ≡ us
 some_tokens r ts us e f = cc
 
-no_tokens : (r : Reading) (ts : List Token) (f : ℕ × LexWhy) → r ≡ Ok ts → r ≡ Err f → ⊥
+no_tokens : (r : Lexing) (ts : List Token) (f : ℕ × LexWhy) → r ≡ Ok ts → r ≡ Err f → ⊥
 no_tokens r ts f e g = cc
 
-one_lexical : (r : Reading) (f g : ℕ × LexWhy) → r ≡ Err f → r ≡ Err g → f ≡ g
+one_lexical : (r : Lexing) (f g : ℕ × LexWhy) → r ≡ Err f → r ≡ Err g → f ≡ g
 one_lexical r f g e h = cc
 
 no_least : (fs : List Fault) (f : Fault) → fs ≡ [] → least fs ≡ Some f → ⊥

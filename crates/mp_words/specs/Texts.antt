@@ -4,7 +4,7 @@ use Rattle.mp_names.specs.Table.{Extends}
 use Rattle.mp_lex.specs.declared.token.Token.{Token}
 use Rattle.mp_lex.specs.declared.token.LexWhy.{LexWhy}
 use Rattle.mp_lex.specs.declared.token.LexWhy.TheVariants as lex_why
-use Rattle.mp_lex.specs.Lex.{Reading, lex}
+use Rattle.mp_lex.specs.Lex.{Lexing, lex}
 use Rattle.mp_words.specs.declared.word.Word.{Word}
 use Rattle.mp_words.specs.declared.fail.TextWhy.{TextWhy}
 use Rattle.mp_words.specs.declared.fail.TextWhy.TheVariants as why
@@ -23,7 +23,7 @@ abbrev pub words_in : List (List ℕ) → List ℕ → List Token → List Word
 words_in names source ts = words_of names (pieces_of source ts)
 
 -- the table of names behind the tokens; behind a lexical fault it is as it was
-abbrev pub names_by : List (List ℕ) → List ℕ → Reading → List (List ℕ)
+abbrev pub names_by : List (List ℕ) → List ℕ → Lexing → List (List ℕ)
 names_by names source (Ok ts) = names_after names (pieces_of source ts)
 names_by names source (Err f) = names
 

@@ -5,8 +5,8 @@ use Rattle.mp_names.specs.Table.{is_same, entered, number_of}
 use Rattle.mp_lex.specs.declared.token.Kind.{Kind}
 use Rattle.mp_lex.specs.declared.token.Kind.TheVariants as kind
 use Rattle.mp_lex.specs.declared.token.Token.{Token}
-use Rattle.mp_lex.specs.Forms.{is_positive, value_of}
-use Rattle.mp_lex.specs.Lex.{text_of}
+use Rattle.mp_lex.specs.Forms.{is_positive, number_of_digits}
+use Rattle.mp_lex.specs.Lex.{token_text}
 use Rattle.mp_words.specs.declared.word.Mark.{Mark}
 use Rattle.mp_words.specs.declared.word.Mark.TheVariants as mark
 use Rattle.mp_words.specs.declared.word.Keyword.{Keyword}
@@ -21,7 +21,7 @@ pub record Piece : Type 0 where
 
 -- what a token is in its source
 abbrev pub piece_of : List ℕ → Token → Piece
-piece_of source t = record { kind = t.kind; text = text_of source t }
+piece_of source t = record { kind = t.kind; text = token_text source t }
 
 -- what the tokens are in their source
 abbrev pub pieces_of : List ℕ → List Token → List Piece
@@ -69,7 +69,7 @@ minus (suc n) = negsuc n
 -- the number that digits write, with `-` before them or not
 abbrev pub integer_of : List ℕ → ℤ
 integer_of [] = pos 0
-integer_of (b ∷ bs) = if nat_eq b 45 then minus (value_of bs) else pos (value_of (b ∷ bs))
+integer_of (b ∷ bs) = if nat_eq b 45 then minus (number_of_digits bs) else pos (number_of_digits (b ∷ bs))
 
 -- what the bytes up to the closing quote stand for: a byte behind a `\` is itself; the first argument says whether a `\` is before
 abbrev pub unescaped : Bool → List ℕ → List ℕ
@@ -84,7 +84,7 @@ content_of text = unescaped false (drop 1 text)
 -- `k` for a name that is `x` followed by `k` in decimal, which is at least 1, has no leading zero and fits 32 bits
 abbrev pub numbered_of : List ℕ → Option ℕ
 numbered_of [] = None
-numbered_of (b ∷ bs) = if nat_eq b 120 && is_positive bs && nat_lt (value_of bs) 4294967296 then Some (value_of bs) else None
+numbered_of (b ∷ bs) = if nat_eq b 120 && is_positive bs && nat_lt (number_of_digits bs) 4294967296 then Some (number_of_digits bs) else None
 
 -- the name that a token of this kind enters: a variable's without its quote, and a string's content
 abbrev pub name_of : Kind → List ℕ → Option (List ℕ)

@@ -1,6 +1,6 @@
 ghost use Rattle.std.specs.Prelude.{◌≡◌, ◌+◌, ◌-◌, ◌<◌, ◌≤◌, ◌^◌, length, map, take, drop, OnOk, IfOk};
 ghost use Rattle.mp_names.specs.Table.{Extends};
-ghost use Rattle.mp_lex.specs.Lex.{text_of};
+ghost use Rattle.mp_lex.specs.Lex.{token_text};
 ghost use Rattle.mp_lex.specs.Spans.{EachToken, IsSpan, HasItsKind};
 ghost use Rattle.mp_words.specs.Words.{piece_of, pieces_of, names_with, names_after, word_of, words_of};
 

@@ -1,7 +1,7 @@
 ghost use Rattle.std.specs.Prelude.{◌≡◌, ◌++◌, ◌∷◌, ◌≤◌, ◌<◌, ◌^◌, OnOk, IfOk, min, length, true, false, drop};
 ghost use Rattle.std.specs.List.{list_all};
 ghost use Rattle.mp_lex.specs.Bytes.{is_digit};
-ghost use Rattle.mp_lex.specs.Forms.{is_positive, is_number, value_of};
+ghost use Rattle.mp_lex.specs.Forms.{is_positive, is_number, number_of_digits};
 ghost use Rattle.mp_words.specs.Words.{content_of, integer_of, keyword_of, mark_of, minus, numbered_of, unescaped};
 
 use crate::{Keyword, Mark};
@@ -94,7 +94,7 @@ pub(crate) fn mark(text: &[u8]) -> Mark
 
 /// The number that the digits write; it stops at the greatest `u64`.
 fn value(digits: &[u8]) -> u64
-    ensures { result ≡ min (value_of digits.now) 18446744073709551615 }
+    ensures { result ≡ min (number_of_digits digits.now) 18446744073709551615 }
 {
     let mut total = 0u64;
     for digit in digits {
