@@ -21,7 +21,7 @@ abbrev pub SubstitutionAfterWeakening : Type 0
 SubstitutionAfterWeakening =
     (s extra : List Term) (m : ℕ) (t : Term) → IsTrue (in_scope_of t (length s)) → sub_of (weak (length s) (length extra) t) (s ++ extra) m ≡ sub_of t s m
 
--- weakening after substitution: it is the terms put for the variables that are weakened
+-- weakening after substitution: only the terms put for the variables are weakened
 abbrev pub WeakeningAfterSubstitution : Type 0
 WeakeningAfterSubstitution =
     (s : List Term) (m k : ℕ) (t : Term) → IsTrue (in_scope_of t (length s)) → weak m k (sub_of t s m) ≡ sub_of t (map (weak m k) s) (m + k)
@@ -45,7 +45,7 @@ WeakeningIsSubstitution = (t : Term) (n k : ℕ) → IsTrue (in_scope_of t n) �
 abbrev pub ScopeAfterWeakening : Type 0
 ScopeAfterWeakening = (n k : ℕ) (t : Term) → IsTrue (in_scope_of t n) → IsTrue (in_scope_of (weak n k t) (n + k))
 
--- a term is in the scope of the terms that were put for its variables
+-- after substitution a term is in the scope of the terms that were put for its variables
 abbrev pub ScopeAfterSubstitution : Type 0
 ScopeAfterSubstitution = (s : List Term) (m : ℕ) (t : Term) → AreInScope m s → IsTrue (in_scope_of t (length s)) → IsTrue (in_scope_of (sub_of t s m) m)
 
@@ -53,13 +53,13 @@ ScopeAfterSubstitution = (s : List Term) (m : ℕ) (t : Term) → AreInScope m s
 abbrev pub WidthAfterWeakening : Type 0
 WidthAfterWeakening = (n k : ℕ) (t : Term) → widest_of (weak n k t) (n + k) ≡ widest_of t n + k
 
--- no scope in the result is wider than the widest one that was put in, and the binders above it
+-- no scope in a term after substitution is wider than the widest one that was put in, and the binders above it
 abbrev pub WidthAfterSubstitution : Type 0
 WidthAfterSubstitution =
     (s : List Term) (m : ℕ) (t : Term) → IsTrue (in_scope_of t (length s)) →
     widest_of (sub_of t s m) m + length s ≤ widest_of t (length s) + widest_in m s
 
--- where no subterm has more than 8 binders, each level of depth widens the scope by 8 at most
+-- if no subterm has more than 8 binders, each level of depth widens the scope by 8 at most
 abbrev pub WidthOfFewBinders : Type 0
 WidthOfFewBinders = (t : Term) (n : ℕ) → IsTrue (few_binders_of t) → widest_of t n ≤ n + 8 * depth_of t
 
@@ -67,11 +67,11 @@ WidthOfFewBinders = (t : Term) (n : ℕ) → IsTrue (few_binders_of t) → wides
 abbrev pub SizeAfterWeakening : Type 0
 SizeAfterWeakening = (n k : ℕ) (t : Term) → (size_of (weak n k t) ≡ size_of t) × (depth_of (weak n k t) ≡ depth_of t)
 
--- each occurrence of a variable counts as its term, and the term gets no smaller
+-- the size after substitution: each occurrence of a variable counts as its term, and the term gets no smaller
 abbrev pub SizeAfterSubstitution : Type 0
 SizeAfterSubstitution = (s : List Term) (m : ℕ) (t : Term) → (size_of (sub_of t s m) ≡ sub_size (map size_of s) t) × (size_of t ≤ size_of (sub_of t s m))
 
--- each occurrence of a variable is as deep as its term, and the depth grows by less than that of the deepest term
+-- the depth after substitution: each occurrence of a variable is as deep as its term, and the depth grows by less than that of the deepest term
 abbrev pub DepthAfterSubstitution : Type 0
 DepthAfterSubstitution =
     (s : List Term) (m : ℕ) (t : Term) →
@@ -81,7 +81,7 @@ DepthAfterSubstitution =
 abbrev pub BindersAfterWeakening : Type 0
 BindersAfterWeakening = (n k : ℕ) (t : Term) → few_binders_of (weak n k t) ≡ few_binders_of t
 
--- where each subterm has at most 8 binders, before and in what is put in, so it is in the result
+-- if each subterm of a term and of what is put into it has at most 8 binders, so has each subterm of the result
 abbrev pub BindersAfterSubstitution : Type 0
 BindersAfterSubstitution =
     (s : List Term) (m : ℕ) (t : Term) → All (λ u. IsTrue (few_binders_of u)) s → IsTrue (few_binders_of t) → IsTrue (few_binders_of (sub_of t s m))

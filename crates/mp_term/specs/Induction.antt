@@ -9,14 +9,16 @@ use Rattle.mp_term.specs.declared.term.Bound.{Bound, Bound-F}
 use Rattle.mp_term.specs.declared.term.Term.TheOpen as layer
 
 module _ (P : Term → Type 0) where
-  -- the fact of each body
+  -- the fact holds of each body
   abbrev pub OfEachBody : List Bound → Type 0
   OfEachBody [] = Unit {0}
   OfEachBody (b ∷ bs) = P b.body × OfEachBody bs
 
+  -- a term with the fact of it
   abbrev Known : Type 0
   Known = (t : Term) × P t
 
+  -- a bound subterm with the fact of its body
   abbrev KnownBound : Type 0
   KnownBound = (b : Bound) × P b.body
 
