@@ -31,7 +31,7 @@ abbrev pub leaves_text : ℕ → List ℕ
 leaves_text zero = codes "closed"
 leaves_text (suc n) = decimal (counted (suc n)) ++ codes " open"
 
--- what stands behind the goal's name: that the tree is closed, or how many leaves are open, and the lines of the tree;
+-- what stands after the goal's name: that the tree is closed, or how many leaves are open, and the lines of the tree;
 -- or the failure's kind, the number of its strategy counted from 1, and its goal
 abbrev pub outcome_text : List (List ℕ) → List Rule → List Just → Outcome Sequent → List ℕ
 outcome_text names rules justs (outcome.Tree t) = leaves_text (leaf_count_of t) ++ codes "\n" ++ tree_text names rules justs t []

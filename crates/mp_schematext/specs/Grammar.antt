@@ -30,7 +30,7 @@ IsParamPatWord (Hole name) ts rest = After (IsMark mark.At) IsName name ts rest
 abbrev pub IsParamPat : RawParamPat → List Word → List Word → Type 0
 IsParamPat p ts rest = IsParamPatWord p.value ts rest × (p.left ≡ length ts)
 
--- behind @ the name is due
+-- after @ the name is due
 abbrev pub StuckParamPat : List Word → List Word → Type 0
 StuckParamPat ts rest = StuckOptional (IsMark mark.At) (Lacks IsName) ts rest ⊎ (No (IsMark mark.At) ts × Lacks IsParamPat ts rest)
 
@@ -119,7 +119,7 @@ mutual
 abbrev pub IsContext : RawName × (List RawName × List RawPattern) → List Word → List Word → Type 0
 IsContext = Both IsCapAt (Both AreContexts (Ended AreArguments (IsMark mark.Greater)))
 
--- a reading of a context behind its < is stuck at the first of these words
+-- a reading of a context after its < is stuck at the first of these words
 abbrev pub StuckContext : List Word → List Word → Type 0
 StuckContext = StuckBoth IsCapAt (Lacks IsCapAt) (StuckBoth AreContexts StuckContexts (StuckEnded AreArguments StuckArguments (IsMark mark.Greater)))
 
@@ -131,7 +131,7 @@ IsHypothesis = Both IsName (After (IsMark mark.Colon) IsPattern)
 abbrev pub StuckHypothesis : List Word → List Word → Type 0
 StuckHypothesis = StuckBoth IsName (Lacks IsName) (StuckAfter (IsMark mark.Colon) StuckPattern)
 
--- a context behind <, or a hypothesis
+-- a context after <, or a hypothesis
 abbrev pub IsItem : RawItem → List Word → List Word → Type 0
 IsItem (item.Ctx name ctxs args left) ts rest = After (IsMark mark.Less) IsContext (name, (ctxs, args)) ts rest × (left ≡ length ts)
 IsItem (item.Hyp name pattern left) ts rest = IsHypothesis (name, pattern) ts rest × (left ≡ length ts)
@@ -172,7 +172,7 @@ IsRule r = Both (IsNameBehind keyword.Rule) (After (IsMark mark.Colon) (Both Are
 abbrev pub StuckRule : List Word → List Word → Type 0
 StuckRule = StuckBoth (IsNameBehind keyword.Rule) (StuckNameBehind keyword.Rule) (StuckAfter (IsMark mark.Colon) (StuckBoth ArePremises StuckPremises StuckSchema))
 
--- the rules, and nothing behind them
+-- the rules, and no word after them
 abbrev pub IsTheory : List RawRule → List Word → List Word → Type 0
 IsTheory = Many IsRule
 

@@ -35,15 +35,15 @@ AreSomeGiven = After (IsMark mark.OpenBracket) (Separated IsGiven (IsMark mark.S
 abbrev pub StuckSomeGiven : List Word → List Word → Type 0
 StuckSomeGiven = StuckAfter (IsMark mark.OpenBracket) (StuckSeparated IsGiven StuckGiven (IsMark mark.Semicolon) (IsMark mark.CloseBracket))
 
--- the given terms behind `with`, or nothing
+-- the given terms after `with`, or nothing
 abbrev pub AreGiven : List RawGiven → List Word → List Word → Type 0
 AreGiven = Optional (IsWord keyword.With) [] AreSomeGiven
 
--- where the reading of the given terms behind `with` is stuck
+-- where the reading of the given terms after `with` is stuck
 abbrev pub StuckAllGiven : List Word → List Word → Type 0
 StuckAllGiven = StuckOptional (IsWord keyword.With) StuckSomeGiven
 
--- the number behind `at`, or nothing
+-- the number after `at`, or nothing
 abbrev pub IsPlace : Option RawNumber → List Word → List Word → Type 0
 IsPlace = Led (IsWord keyword.At) IsNumberAt
 
@@ -84,11 +84,11 @@ mutual
     in_strategy : (ts rest : List Word) → StuckStrategy ts rest → StuckChain ts rest
     in_others : (ts rest : List Word) (s : RawStrategy) (us vs : List Word) → IsStrategy s ts us → IsWord keyword.Then us vs → StuckChain vs rest → StuckChain ts rest
 
--- the chain behind `by`, and its place
+-- the chain after `by`, and its place
 abbrev pub IsWhole : List RawStrategy × ℕ → List Word → List Word → Type 0
 IsWhole s ts rest = IsChain s.0 ts rest × (s.1 ≡ length ts)
 
--- the number behind `fuel`, or nothing
+-- the number after `fuel`, or nothing
 abbrev pub IsFuel : Option RawNumber → List Word → List Word → Type 0
 IsFuel = Led (IsWord keyword.Fuel) IsNumberAt
 
@@ -106,10 +106,10 @@ IsEntry e =
 abbrev pub StuckEntry : List Word → List Word → Type 0
 StuckEntry = StuckBoth (IsNameBehind keyword.Goal) (StuckNameBehind keyword.Goal) (StuckBoth IsFuel StuckFuel (StuckAfter (IsMark mark.Colon) (StuckBoth IsSequent StuckSequent (StuckAfter (IsWord keyword.By) StuckChain))))
 
--- the goals, and nothing behind them
+-- the goals, and no word after them
 abbrev pub IsScript : List RawEntry → List Word → List Word → Type 0
 IsScript = Many IsEntry
 
--- where the reading of the goals is stuck, which may be at what stands behind them
+-- where the reading of the goals is stuck, which may be after the last
 abbrev pub StuckScript : List Word → List Word → Type 0
 StuckScript = StuckMany IsEntry StuckEntry

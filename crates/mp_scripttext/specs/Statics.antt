@@ -35,16 +35,16 @@ abbrev pub need_faults : Option Need → RawGiven → List Fault
 need_faults None g = fault g.name.left why.ExtraWith
 need_faults (Some need) g = fault_if (not (nat_eq need.arity (length g.term.binders))) g.name.left why.BadArity
 
--- those of a given term behind given terms of these names
+-- the faults of a given term after given terms of these names
 abbrev pub given_faults : List Need → List Sym → RawGiven → List Fault
 given_faults needs before g = need_faults (need_of needs g.name.name) g ++ fault_if (is_among before g.name.name) g.name.left why.TwiceWith
 
--- those of given terms, each behind those before it
+-- the faults of given terms, each after those before it
 abbrev pub all_given_faults : List Need → List Sym → List RawGiven → List Fault
 all_given_faults needs before [] = []
 all_given_faults needs before (g ∷ gs) = given_faults needs before g ++ all_given_faults needs (before ++ g.name.name ∷ []) gs
 
--- the faults of the term itself: `x1` to `x200` are free, and its binders come behind them
+-- the faults of the term itself: `x1` to `x200` are free, and its binders come after them
 abbrev pub term_faults : RawGiven → List Fault
 term_faults g = bound_term_faults 200 g.left g.term
 
@@ -88,7 +88,7 @@ strategy_faults rules e s =
 abbrev pub entry_faults : List Rule → RawEntry → List Fault
 entry_faults rules e = written_number_faults 0 400 e.fuel ++ sequent_faults e.goal ++ strategy_faults rules e (whole_of e.strategy)
 
--- those of goals behind goals of these names
+-- the faults of goals after goals of these names
 abbrev pub entries_faults : List Rule → List Sym → List RawEntry → List Fault
 entries_faults rules taken [] = []
 entries_faults rules taken (e ∷ es) =

@@ -27,7 +27,7 @@ step_alone s = record { steps = s ∷ []; nodes = 1; depth = 1; rows = λ node s
 abbrev pub then_row : (first second : ℕ) → Tac
 then_row first second = tac.Then (record { 0 = first }) (record { 0 = second })
 
--- a node for `then`, and behind it the nodes of the first strategy and those of the second one
+-- a node for `then`, and after it the nodes of the first strategy and those of the second one
 abbrev pub then_of : Strategy → Strategy → Strategy
 then_of a b = record {
   steps = a.steps ++ b.steps;

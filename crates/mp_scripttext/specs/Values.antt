@@ -1,4 +1,4 @@
--- What scripts stand for that are written, in a theory, where no static rule is broken.
+-- What scripts stand for that are written, in a theory, if no static rule is broken.
 use Rattle.std.specs.Prelude.{ℕ, ◌-◌, nat_abs, List, [], map, Option, None, Some, unwrap_or}
 use Rattle.mp_term.specs.declared.term.Term.{Term, Var}
 use Rattle.mp_theory.specs.declared.rule.Rule.{Rule}

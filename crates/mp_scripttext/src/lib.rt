@@ -16,12 +16,7 @@ mod step_statics;
 mod syntax;
 mod table;
 
-pub use chain::parse_chain;
 pub use laws::{one_reading, one_text};
-pub use making::build_script;
 pub use raw::{RawEntry, RawGiven, RawStep, RawStrategy};
 pub use reading::read_script;
 pub use script::{Entry, Script};
-pub use statics::script_fault;
-pub use step::parse_step;
-pub use syntax::parse_script;

@@ -48,7 +48,7 @@ fn build_entry(alloc: Global, theory: &Theory, raw: &RawEntry) -> Result<Entry, 
 }
 
 /// The script that is written, in a theory, where no static rule is broken. Its goals can be evaluated.
-pub fn build_script(
+pub(crate) fn build_script(
     alloc: Global,
     theory: &Theory,
     raws: &List<RawEntry>,

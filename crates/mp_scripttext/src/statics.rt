@@ -100,7 +100,7 @@ fn check_taken(held: Option<Fault>, is_taken: bool, name: RawName) -> Option<Fau
 }
 
 /// The least static fault of a script, in a theory. None exactly where no static rule is broken.
-pub fn script_fault(
+pub(crate) fn script_fault(
     alloc: Global,
     theory: &Theory,
     raws: &List<RawEntry>,

@@ -12,7 +12,7 @@ use mp_words::{
 use std::alloc::Global;
 
 /// Reads this word and a number; there is none where the word doesn't stand.
-pub fn parse_number_behind(
+pub(crate) fn parse_number_behind(
     words: &[Word],
     which: Keyword,
 ) -> Result<(Option<RawNumber>, &[Word]), ReadFail>
@@ -74,7 +74,7 @@ fn parse_given(alloc: Global, words: &[Word]) -> Result<(List<RawGiven>, &[Word]
 }
 
 /// Reads a step by a rule at the front of the words.
-pub fn parse_step(alloc: Global, words: &[Word]) -> Result<(RawStep, &[Word]), ReadFail>
+pub(crate) fn parse_step(alloc: Global, words: &[Word]) -> Result<(RawStep, &[Word]), ReadFail>
     ensures reads { Reads (λ x. (x.0, x.1.now)) IsStep StuckStep words.now result }
     ensures shorter { IfOk result (λ x. length x.1.now < length words.now) }
 {

@@ -44,7 +44,7 @@ impl Reader for RawEntry {
 }
 
 /// Reads a script that is all of the words.
-pub fn parse_script(alloc: Global, words: &[Word]) -> Result<List<RawEntry>, ReadFail>
+pub(crate) fn parse_script(alloc: Global, words: &[Word]) -> Result<List<RawEntry>, ReadFail>
     ensures reads { Reads (λ x. (x, [])) IsScript StuckScript words.now result }
     ensures few { IfOk result (λ entries. length entries ≤ length words.now) }
 {

@@ -34,7 +34,7 @@ IsParam p ts rest = IsParamWord p.value ts rest × (p.left ≡ length ts)
 abbrev pub AreParams : List RawParam → List Word → List Word → Type 0
 AreParams = Optional (IsMark mark.OpenBracket) [] (Separated IsParam (IsMark mark.Semicolon) (IsMark mark.CloseBracket))
 
--- where parameters are stuck: behind their bracket, if it stands
+-- where parameters are stuck: after their bracket, if that stands
 abbrev pub StuckParams : List Word → List Word → Type 0
 StuckParams = StuckOptional (IsMark mark.OpenBracket) (StuckSeparated IsParam (Lacks IsParam) (IsMark mark.Semicolon) (IsMark mark.CloseBracket))
 
@@ -53,11 +53,11 @@ begins_binders other = false
 abbrev pub AreSomeBinders : List RawName → List Word → List Word → Type 0
 AreSomeBinders = Separated IsNameAt (IsMark mark.Comma) (IsMark mark.Dot)
 
--- binders where they begin, and else none
+-- binders where they begin, else none
 abbrev pub AreBinders : List RawName → List Word → List Word → Type 0
 AreBinders bs ts rest = ((begins_binders ts ≡ false) × (bs ≡ []) × (rest ≡ ts)) ⊎ ((begins_binders ts ≡ true) × AreSomeBinders bs ts rest)
 
--- where binders are stuck: only where they begin
+-- where binders are stuck: only if they begin
 abbrev pub StuckBinders : List Word → List Word → Type 0
 StuckBinders ts rest = (begins_binders ts ≡ true) × StuckSeparated IsNameAt (Lacks IsNameAt) (IsMark mark.Comma) (IsMark mark.Dot) ts rest
 
@@ -88,7 +88,7 @@ mutual
     in_params : (ts rest : List Word) (n : Sym) (us : List Word) → IsName n ts us → StuckParams us rest → StuckTerm ts rest
     in_subs : (ts rest : List Word) (n : Sym) (ps : List RawParam) (us vs : List Word) → IsName n ts us → AreParams ps us vs → StuckSubs vs rest → StuckTerm ts rest
 
-  -- where the subterms in braces are stuck: behind their brace, if it stands
+  -- where the subterms in braces are stuck: after their brace, if that stands
   pub data StuckSubs : List Word → List Word → Type 0 where
     in_braces : (ts rest : List Word) (us : List Word) → IsMark mark.OpenBrace ts us → StuckBounds us rest → StuckSubs ts rest
 
@@ -115,7 +115,7 @@ StuckHyp = StuckBoth IsName (Lacks IsName) (StuckAfter (IsMark mark.Colon) Stuck
 abbrev pub AreHyps : List RawHyp → List Word → List Word → Type 0
 AreHyps = Listed IsHyp (IsMark mark.Semicolon) (IsMark mark.Turnstile)
 
--- where hypotheses are stuck: only where `>-` doesn't stand at once
+-- where hypotheses are stuck: only if `>-` doesn't stand at once
 abbrev pub StuckHyps : List Word → List Word → Type 0
 StuckHyps = StuckListed IsHyp StuckHyp (IsMark mark.Semicolon) (IsMark mark.Turnstile)
 

@@ -14,17 +14,17 @@ use Rattle.mp_term.specs.declared.sequent.Sequent.{Sequent}
 abbrev pub name_text : ℕ → List ℕ
 name_text level = codes "x" ++ decimal (level + 1)
 
--- the rest of a list of which something is printed: each text with `; ` before it, and then what stands behind the list
+-- the rest of a list of which something is printed: each text with `; ` before it, and then what stands after the list
 abbrev pub further_text : List ℕ → List (List ℕ) → List ℕ
 further_text behind [] = behind
 further_text behind (t ∷ ts) = codes "; " ++ t ++ further_text behind ts
 
--- a list between what stands before and behind it, with `; ` between its texts; nothing where it has none
+-- a list between what stands before and after it, with `; ` between its texts; nothing if it has none
 abbrev pub list_text : List ℕ → List ℕ → List (List ℕ) → List ℕ
 list_text before behind [] = []
 list_text before behind (t ∷ ts) = before ++ t ++ further_text behind ts
 
--- `"` and `\` are written behind a `\`
+-- `"` and `\` are written after a `\`
 abbrev pub escaped : List ℕ → List ℕ
 escaped [] = []
 escaped (b ∷ bs) = (if nat_eq b 34 || nat_eq b 92 then 92 ∷ b ∷ [] else b ∷ []) ++ escaped bs
@@ -43,7 +43,7 @@ abbrev pub further_binders_text : ℕ → ℕ → List ℕ
 further_binders_text level zero = codes ". "
 further_binders_text level (suc n) = codes ", " ++ name_text level ++ further_binders_text (level + 1) n
 
--- so many binders from this level on
+-- the text of so many binders from this level on
 abbrev pub binders_text : ℕ → ℕ → List ℕ
 binders_text level zero = []
 binders_text level (suc n) = name_text level ++ further_binders_text (level + 1) n
@@ -70,7 +70,7 @@ bound_step b scope = binders_text scope b.binders ++ b.body (scope + b.binders)
 abbrev pub term_text : List (List ℕ) → Term → ℕ → List ℕ
 term_text names = fold-Term Scoped Scoped (term_step names) bound_step
 
--- a subterm behind its binders, which are the next levels
+-- a subterm after its binders, which are the next levels
 abbrev pub bound_text : List (List ℕ) → Bound → ℕ → List ℕ
 bound_text names = fold-Bound Scoped Scoped (term_step names) bound_step
 
@@ -83,7 +83,7 @@ abbrev pub further_hyps_text : List (List ℕ) → ℕ → List Term → List �
 further_hyps_text names level [] = codes " "
 further_hyps_text names level (t ∷ ts) = codes "; " ++ hyp_text names level t ++ further_hyps_text names (level + 1) ts
 
--- the hypotheses and a space; nothing where there are none
+-- the hypotheses and a space; nothing if there are none
 abbrev pub hyps_text : List (List ℕ) → List Term → List ℕ
 hyps_text names [] = []
 hyps_text names (t ∷ ts) = hyp_text names 0 t ++ further_hyps_text names 1 ts

@@ -35,7 +35,7 @@ written_step names (layer.Op op params subs) =
 abbrev pub is_written : List (List ℕ) → Term → Bool
 is_written names = fold-Term Bool Bool (written_step names) body_step
 
--- and so it is with each hypothesis and the conclusion
+-- each hypothesis and the conclusion of a sequent can be printed
 abbrev pub is_written_sequent : List (List ℕ) → Sequent → Bool
 is_written_sequent names s = list_all (is_written names) s.hyps && is_written names s.concl
 
@@ -58,6 +58,6 @@ pub record IsPrintableSequent (names : List (List ℕ)) (s : Sequent) : Type 0 w
 abbrev pub PrintedTermIsRead : Type 0
 PrintedTermIsRead = (names later : List (List ℕ)) (scope : ℕ) (t : Term) → Extends names later → AreDistinct later → scope < 2 ^ 31 → IsPrintable names scope t → IsTermText scope later (term_text names t scope) t
 
--- and the text of a sequent as that sequent
+-- the printed text of a sequent is read as that sequent
 abbrev pub PrintedSequentIsRead : Type 0
 PrintedSequentIsRead = (names later : List (List ℕ)) (s : Sequent) → Extends names later → AreDistinct later → IsPrintableSequent names s → IsSequentText later (sequent_text names s) s

@@ -12,7 +12,7 @@ use Rattle.mp_words.specs.declared.fail.TextWhy.TheVariants as why
 use Rattle.mp_words.specs.declared.fault.Fault.{Fault}
 use Rattle.mp_words.specs.Faults.{fault, fault_if, too_many}
 
--- a place behind the first of a list, counted from the first; else the first, where the test passes
+-- a place after the first of a list, counted from the first; else the first, if the test passes
 abbrev pub or_here : Option ℕ → Bool → Option ℕ
 or_here (Some i) here = Some (1 + i)
 or_here None true = Some 0
@@ -34,7 +34,7 @@ abbrev pub level_by : ℕ → Option ℕ → Option ℕ → Option ℕ
 level_by free (Some i) k = Some (free + i)
 level_by free None k = free_level free k
 
--- the level that a variable means, where these names are bound behind so many free ones: the last one bound under its name, and else the free one of its number
+-- the level that a variable means, where these names are bound after so many free ones: the last one bound under its name, and else the free one of its number
 abbrev pub level_of : ℕ → List Sym → Sym → Option ℕ → Option ℕ
 level_of free env name k = level_by free (place_in env name) k
 
@@ -51,11 +51,11 @@ abbrev pub unless_bound : ℕ → Option ℕ → List Fault
 unless_bound l None = fault l why.UnboundVar
 unless_bound l (Some level) = []
 
--- the faults of what stands behind these bound names, at this depth
+-- the faults of what stands after these bound names, at this depth
 abbrev pub Checked : Type 0
 Checked = List Sym → ℕ → List Fault
 
--- the faults of all of them, behind the same names and at one depth
+-- the faults of all of them, after the same names and at one depth
 abbrev pub each_faults : List Checked → Checked
 each_faults [] env depth = []
 each_faults (s ∷ ss) env depth = s env depth ++ each_faults ss env depth
@@ -69,7 +69,7 @@ faults_step free (layer.Op name ps subs l) env depth = deep depth l ++ too_many 
 abbrev pub faults_bound_step : RawBound-F Checked Checked → Checked
 faults_bound_step b env depth = too_many (λ b. b.left) 8 b.binders ++ b.body (env ++ names_of b.binders) depth
 
--- the faults of a term where these names are bound behind so many free ones, at its depth: nodes at depth over 200, more than 16 parameters, more than 8 binders, and variables that aren't bound
+-- the faults of a term where these names are bound after so many free ones, at its depth: nodes at depth over 200, more than 16 parameters, more than 8 binders, and variables that aren't bound
 abbrev pub faults_of : ℕ → RawTerm → List Sym → ℕ → List Fault
 faults_of free = fold-RawTerm Checked Checked (faults_step free) faults_bound_step
 
@@ -103,7 +103,7 @@ left_of = fold-RawTerm ℕ ℕ left_step raw_size_bound_step
 abbrev pub term_faults : ℕ → RawTerm → List Fault
 term_faults free t = faults_of free t [] 1 ++ fault_if (nat_lt 20000 (raw_size_of t)) (left_of t) why.TooBig
 
--- those of a term behind its binders by itself, which begins where so many words are left
+-- the faults of a term after its binders by itself, which begins where so many words are left
 abbrev pub bound_term_faults : ℕ → ℕ → RawBound → List Fault
 bound_term_faults free l b = bound_faults_of free b [] 1 ++ fault_if (nat_lt 20000 (raw_size_of b.body)) l why.TooBig
 
@@ -111,7 +111,7 @@ bound_term_faults free l b = bound_faults_of free b [] 1 ++ fault_if (nat_lt 200
 abbrev pub hyp_names : List RawHyp → List Sym
 hyp_names hs = map (λ h. h.name) hs
 
--- the faults of hypotheses, each behind those before it
+-- the faults of hypotheses, each after those before it
 abbrev pub hyps_faults : List RawHyp → List Sym → List Fault
 hyps_faults [] env = []
 hyps_faults (h ∷ hs) env = faults_of 0 h.term env 1 ++ hyps_faults hs (env ++ h.name ∷ [])

@@ -1,4 +1,4 @@
--- What terms and sequents stand for that are written, where no static rule is broken.
+-- What terms and sequents stand for that are written, if no static rule is broken.
 use Rattle.std.specs.Prelude.{◌≡◌, ℕ, ◌+◌, ◌*◌, ◌++◌, ◌≤◌, List, [], ◌∷◌, length, map, unwrap_or}
 use Rattle.mp_logic.specs.declared.sym.Sym.{Sym}
 use Rattle.mp_term.specs.declared.term.Term.{Term, Var, Op}
@@ -12,7 +12,7 @@ use Rattle.mp_termtext.specs.declared.raw.RawHyp.{RawHyp}
 use Rattle.mp_termtext.specs.declared.raw.RawSequent.{RawSequent}
 use Rattle.mp_termtext.specs.Statics.{bound_faults_of, each_faults, faults_of, hyp_names, level_of, names_of}
 
--- the subterms behind the same names
+-- the subterms after the same names
 abbrev pub each_value : List (List Sym → Bound) → List Sym → List Bound
 each_value [] env = []
 each_value (s ∷ ss) env = s env ∷ each_value ss env
@@ -26,7 +26,7 @@ value_step free (layer.Op name ps subs l) env = Op name (map (λ p. p.value) ps)
 abbrev pub value_bound_step : RawBound-F (List Sym → Term) (List Sym → Bound) → List Sym → Bound
 value_bound_step b env = record { binders = length b.binders; body = b.body (env ++ names_of b.binders) }
 
--- the term that is written, where these names are bound behind so many free ones
+-- the term that is written, where these names are bound after so many free ones
 abbrev pub value_of : ℕ → RawTerm → List Sym → Term
 value_of free = fold-RawTerm (List Sym → Term) (List Sym → Bound) (value_step free) value_bound_step
 
@@ -38,7 +38,7 @@ bound_value_of free = fold-RawBound (List Sym → Term) (List Sym → Bound) (va
 abbrev pub term_value : ℕ → RawTerm → Term
 term_value free t = value_of free t []
 
--- the hypotheses that are written, each behind those before it
+-- the hypotheses that are written, each after those before it
 abbrev pub hyps_value : List RawHyp → List Sym → List Term
 hyps_value [] env = []
 hyps_value (h ∷ hs) env = value_of 0 h.term env ∷ hyps_value hs (env ++ h.name ∷ [])
@@ -51,10 +51,10 @@ sequent_value s = record { hyps = hyps_value s.hyps []; concl = value_of 0 s.con
 abbrev pub IsFaultless : ℕ → RawTerm → List Sym → Type 0
 IsFaultless free t env = (d : ℕ) × (faults_of free t env d ≡ []) × (length env ≤ 192 + 8 * d)
 
--- nor in subterms, whose bodies are one deeper
+-- no static rule is broken in the subterms, whose bodies are one deeper
 abbrev pub AreFaultless : ℕ → List RawBound → List Sym → Type 0
 AreFaultless free ks env = (d : ℕ) × (each_faults (map (bound_faults_of free) ks) env d ≡ []) × (length env ≤ 184 + 8 * d)
 
--- nor in a subterm, at the depth of its body
+-- no static rule is broken in the subterm, at the depth of its body
 abbrev pub IsFaultlessBound : ℕ → RawBound → List Sym → Type 0
 IsFaultlessBound free k env = (d : ℕ) × (bound_faults_of free k env d ≡ []) × (length env ≤ 184 + 8 * d)

@@ -18,8 +18,6 @@ pub use print::{print_sequent, print_term, push_bound_term, push_sequent, push_t
 pub use raw::{RawBound, RawHyp, RawParam, RawSequent, RawTerm};
 pub use reading::{read_sequent, read_term};
 pub use scope::{level_of, push_names};
-pub use statics::{check_bound_term, check_sequent, left_of, term_fault};
-pub use syntax::{
-    binders_ahead, parse_binders, parse_bound, parse_params, parse_sequent, parse_term, variable,
-};
-pub use value::{build_bound, build_sequent, build_term};
+pub use statics::{check_bound_term, check_sequent, left_of};
+pub use syntax::{parse_binders, parse_bound, parse_sequent, variable};
+pub use value::{build_bound, build_sequent};

@@ -178,7 +178,7 @@ pub fn check_bound_term(
 /// The least static fault of a term that is all of a text, where so many names are free. None exactly where
 /// it has none.
 #[tactic(auto, using(mp_words::proofs::Soonest::least_from_append))]
-pub fn term_fault(alloc: Global, raw: &RawTerm, free: u32) -> Result<Option<Fault>, NoMemory>
+pub(crate) fn term_fault(alloc: Global, raw: &RawTerm, free: u32) -> Result<Option<Fault>, NoMemory>
     ensures { IfOk result (λ found. found ≡ least (term_faults free raw.now)) }
 {
     let mut env = Vec::new(alloc);

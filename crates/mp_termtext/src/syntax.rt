@@ -43,7 +43,7 @@ impl Reader for RawParam {
 }
 
 /// Reads parameters between brackets; there are none where no bracket opens.
-pub fn parse_params(alloc: Global, words: &[Word]) -> Result<(List<RawParam>, &[Word]), ReadFail>
+pub(crate) fn parse_params(alloc: Global, words: &[Word]) -> Result<(List<RawParam>, &[Word]), ReadFail>
     ensures reads { Reads (λ x. (x.0, x.1.now)) AreParams StuckParams words.now result }
     ensures within { IfOk result (λ x. length x.1.now ≤ length words.now) }
 {
@@ -54,7 +54,7 @@ pub fn parse_params(alloc: Global, words: &[Word]) -> Result<(List<RawParam>, &[
 }
 
 /// Whether binders begin at the front: a name before `,` or `.`.
-pub fn binders_ahead(words: &[Word]) -> bool
+pub(crate) fn binders_ahead(words: &[Word]) -> bool
     ensures { result ≡ begins_binders words.now }
 {
     let Some((Word::Small { .. }, rest)) = words.split_first() else {
@@ -80,7 +80,7 @@ pub fn parse_binders(alloc: Global, words: &[Word]) -> Result<(List<RawName>, &[
 
 /// Reads a term at the front of the words.
 #[cycle(parsing)]
-pub fn parse_term(alloc: Global, words: &[Word]) -> Result<(RawTerm, &[Word]), ReadFail>
+pub(crate) fn parse_term(alloc: Global, words: &[Word]) -> Result<(RawTerm, &[Word]), ReadFail>
     ensures reads { Reads (λ x. (x.0, x.1.now)) IsTerm StuckTerm words.now result }
     ensures shorter { IfOk result (λ x. length x.1.now < length words.now) }
 {

@@ -23,7 +23,7 @@ fn values(alloc: Global, params: &List<RawParam>) -> Result<List<Param>, NoMemor
 /// The term that is written, where the names `env` are bound behind `free` free ones, and no static rule is
 /// broken.
 #[cycle(building)]
-pub fn build_term(
+pub(crate) fn build_term(
     alloc: Global,
     raw: &RawTerm,
     free: u32,

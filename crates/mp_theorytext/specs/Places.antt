@@ -4,7 +4,7 @@ use Rattle.mp_logic.specs.declared.sym.Sym.{Sym}
 use Rattle.mp_theorytext.specs.declared.uses.Place.{Place}
 use Rattle.mp_theorytext.specs.Uses.{Use, argument_of}
 
--- behind these contexts, in the conclusion or not
+-- after these contexts, in the conclusion or not
 abbrev pub use_at : Place → List Sym → Bool → Use
 use_at p known final = record {
   is_context = p.is_context;

@@ -14,22 +14,22 @@ level_in env name = level_of 0 env name None
 abbrev pub names_in : List RawName → List Sym
 names_in ns = map (λ n. n.name) ns
 
--- the bound names behind an item
+-- the bound names after an item
 abbrev pub env_past : RawItem → List Sym → List Sym
 env_past (item.Ctx name ctxs args left) env = env
 env_past (item.Hyp name pattern left) env = env ++ name ∷ []
 
--- the bound names behind all items
+-- the bound names after all items
 abbrev pub env_behind : List RawItem → List Sym → List Sym
 env_behind [] env = env
 env_behind (i ∷ is) env = env_behind is (env_past i env)
 
--- the contexts behind an item
+-- the contexts after an item
 abbrev pub contexts_past : RawItem → List Sym → List Sym
 contexts_past (item.Ctx name ctxs args left) known = known ++ name.name ∷ []
 contexts_past (item.Hyp name pattern left) known = known
 
--- the contexts behind all items
+-- the contexts after all items
 abbrev pub contexts_behind : List RawItem → List Sym → List Sym
 contexts_behind [] known = known
 contexts_behind (i ∷ is) known = contexts_behind is (contexts_past i known)

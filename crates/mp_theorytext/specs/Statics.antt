@@ -35,11 +35,11 @@ node_bound_step b env depth = too_many (λ b. b.left) 8 b.binders ++ b.body (env
 abbrev pub node_faults : RawPattern → Checked
 node_faults = fold-RawPattern Checked Checked node_step node_bound_step
 
--- those of a subterm: its body is where its binders are bound too
+-- the faults of the nodes of a subterm: its body is where its binders are bound too
 abbrev pub bound_node_faults : RawPatternBound → Checked
 bound_node_faults = fold-RawPatternBound Checked Checked node_step node_bound_step
 
--- those of an item: a context counts as a node, so its arguments are at depth 2
+-- the faults of the nodes of an item: a context counts as a node, so its arguments are at depth 2
 abbrev pub item_node_faults : RawItem → List Sym → List Fault
 item_node_faults (item.Ctx name ctxs args left) env = each_faults (map node_faults args) env 2
 item_node_faults (item.Hyp name pattern left) env = node_faults pattern env 1
@@ -84,7 +84,7 @@ item_left (item.Hyp name pattern left) = left
 abbrev pub contexts_of : RawSchema → List Sym
 contexts_of s = contexts_behind s.items []
 
--- an item of the conclusion behind these contexts: a context is at most the second one, and a named hypothesis stands
+-- an item of the conclusion after these contexts: a context is at most the second one, and a named hypothesis stands
 -- between two contexts where the conclusion has two
 abbrev pub concl_item_faults : List Sym → List Sym → RawItem → List Fault
 concl_item_faults concl known (item.Ctx name ctxs args left) = fault_if (nat_le 2 (length known)) name.left why.TooManyContexts
@@ -100,12 +100,12 @@ abbrev pub twice_faults : List Sym → RawItem → List Fault
 twice_faults known (item.Ctx name ctxs args left) = fault_if (has known name.name) name.left why.TwiceContext
 twice_faults known (item.Hyp name pattern left) = []
 
--- the faults of an item behind these contexts and bound names, in a rule whose conclusion has those contexts
+-- the faults of an item after these contexts and bound names, in a rule whose conclusion has those contexts
 abbrev pub item_faults : Bool → List Sym → List Sym → List Sym → RawItem → List Fault
 item_faults final concl known env i =
     twice_faults known i ++ (if final then concl_item_faults concl known i else premise_item_faults concl i) ++ item_node_faults i env
 
--- those of items, each behind those before it
+-- the faults of items, each after those before it
 abbrev pub items_faults : Bool → List Sym → List Sym → List Sym → List RawItem → List Fault
 items_faults final concl known env [] = []
 items_faults final concl known env (i ∷ is) = item_faults final concl known env i ++ items_faults final concl (contexts_past i known) (env_past i env) is
@@ -128,7 +128,7 @@ rule_faults r =
     too_many (λ s. s.left) 16 r.premises ++ premises_faults (contexts_of r.concl) r.premises ++ schema_faults true (contexts_of r.concl) r.concl
     ++ uses_faults [] (uses_in_rule r) ++ hole_faults (names_in (raw_schema_holes r.concl)) (flat_map raw_schema_holes r.premises)
 
--- the faults of rules behind rules of these names
+-- the faults of rules after rules of these names
 abbrev pub rules_faults : List Sym → List RawRule → List Fault
 rules_faults taken [] = []
 rules_faults taken (r ∷ rs) = fault_if (has taken r.name.name) r.name.left why.Taken ++ rule_faults r ++ rules_faults (taken ++ r.name.name ∷ []) rs

@@ -89,7 +89,7 @@ argument_of p = (shown p).argument
 abbrev pub uses_in : RawPattern → Situated (List Use)
 uses_in p = (shown p).uses
 
--- those in an item, after the context if it is one
+-- the uses in an item, after the context if it is one
 abbrev pub uses_in_item : RawItem → Situated (List Use)
 uses_in_item (item.Ctx name ctxs args left) known final =
     record {
@@ -103,12 +103,12 @@ uses_in_item (item.Ctx name ctxs args left) known final =
     } ∷ flat_map (λ p. uses_in p known final) args
 uses_in_item (item.Hyp name pattern left) known final = uses_in pattern known final
 
--- those in items, each behind those before it
+-- the uses in items, each after those before it
 abbrev pub uses_in_items : List RawItem → Situated (List Use)
 uses_in_items [] known final = []
 uses_in_items (i ∷ is) known final = uses_in_item i known final ++ uses_in_items is (contexts_past i known) final
 
--- those in a schema; final says whether it is the conclusion of a rule
+-- the uses in a schema; final says whether it is the conclusion of a rule
 abbrev pub uses_in_schema : Bool → RawSchema → List Use
 uses_in_schema final s = uses_in_items s.items [] final ++ uses_in s.concl (contexts_behind s.items []) final
 
@@ -161,34 +161,34 @@ abbrev pub unless_like : Option First → Use → List Fault
 unless_like None u = []
 unless_like (Some f) u = fault_if (not (is_like f (first_of u))) u.left why.BadUse
 
--- the faults of a use behind these first uses of names; in the conclusion of a rule it is applied to distinct variables
+-- the faults of a use after these first uses of names; in the conclusion of a rule it is applied to distinct variables
 abbrev pub use_faults : List First → Use → List Fault
 use_faults firsts u =
     too_many (λ c. c.left) 8 u.ctxs ++ too_many (λ a. a.left) 8 u.args ++ list_faults u.known [] u.ctxs
     ++ (if u.in_conclusion then argument_faults [] u.args else []) ++ unless_like (find_first firsts u.name) u
 
--- the first uses of names behind a use
+-- the first uses of names after a use
 abbrev pub firsts_with : List First → Use → List First
 firsts_with firsts u = if is_some (find_first firsts u.name) then firsts else firsts ++ first_of u ∷ []
 
--- the faults of uses, each behind those before it
+-- the faults of uses, each after those before it
 abbrev pub uses_faults : List First → List Use → List Fault
 uses_faults firsts [] = []
 uses_faults firsts (u ∷ us) = use_faults firsts u ++ uses_faults (firsts_with firsts u) us
 
--- the first uses of names behind uses, one after the other
+-- the first uses of names after uses, one after the other
 abbrev pub firsts_after : List First → List Use → List First
 firsts_after firsts [] = firsts
 firsts_after firsts (u ∷ us) = firsts_after (firsts_with firsts u) us
 
 -- ## Holes
 
--- the hole, if the parameter is one; its place is one word behind the @
+-- the hole, if the parameter is one; its place is one word after the @
 abbrev pub hole_at : ℕ → ParamPat → List RawName
 hole_at left (Lit p) = []
 hole_at left (Hole name) = record { name = name; left = left - 1 } ∷ []
 
--- the hole of a parameter that is one; its name is behind the @
+-- the hole of a parameter that is one; its name is after the @
 abbrev pub holes_in_param : RawParamPat → List RawName
 holes_in_param p = hole_at p.left p.value
 

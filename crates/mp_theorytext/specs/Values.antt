@@ -55,7 +55,7 @@ abbrev pub item_of : RawItem → Valued Item
 item_of (item.Ctx name ctxs args left) env = Ctx name.name (names_in ctxs) (each_value (map pattern_of args) env)
 item_of (item.Hyp name pattern left) env = Hyp (pattern_of pattern env)
 
--- the items that are written, each behind those before it
+-- the items that are written, each after those before it
 abbrev pub items_of : List RawItem → Valued (List Item)
 items_of [] env = []
 items_of (i ∷ is) env = item_of i env ∷ items_of is (env_past i env)

@@ -13,7 +13,4 @@ mod uses;
 mod value;
 
 pub use laws::one_text;
-pub use making::build_theory;
 pub use reading::read_theory;
-pub use statics::theory_fault;
-pub use value::{build_schema, build_schemata};

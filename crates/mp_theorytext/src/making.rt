@@ -27,7 +27,7 @@ fn add_written(alloc: Global, theory: &mut Theory, raw: &RawRule) -> Result<(), 
 }
 
 /// The theory of the rules that are written, in their order, where no static rule is broken.
-pub fn build_theory(alloc: Global, raws: &List<RawRule>) -> Result<Theory, NoMemory>
+pub(crate) fn build_theory(alloc: Global, raws: &List<RawRule>) -> Result<Theory, NoMemory>
     requires few { length raws.now < 4294967295 }
     requires faultless { theory_faults raws.now ≡ [] }
     ensures { IfOk result (λ theory. theory ≡ rules_of raws.now) }

@@ -389,7 +389,7 @@ fn check_taken(
 }
 
 /// The least static fault of a theory as it is written. None exactly where it has none.
-pub fn theory_fault(alloc: Global, raws: &List<RawRule>) -> Result<Option<Fault>, NoMemory>
+pub(crate) fn theory_fault(alloc: Global, raws: &List<RawRule>) -> Result<Option<Fault>, NoMemory>
     ensures { IfOk result (λ found. found ≡ least (theory_faults raws.now)) }
 {
     let mut met = NameSet::new(alloc);

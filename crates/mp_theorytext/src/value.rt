@@ -178,7 +178,7 @@ fn build_items(alloc: Global, items: &[RawItem], env: &mut Vec<Sym>) -> Result<L
 }
 
 /// The schema that is written.
-pub fn build_schema(alloc: Global, raw: &RawSchema) -> Result<Schema, NoMemory>
+pub(crate) fn build_schema(alloc: Global, raw: &RawSchema) -> Result<Schema, NoMemory>
     ensures { IfOk result (λ s. s ≡ schema_of raw.now) }
 {
     let mut env = Vec::new(alloc);
@@ -188,7 +188,7 @@ pub fn build_schema(alloc: Global, raw: &RawSchema) -> Result<Schema, NoMemory>
 }
 
 /// The schemata that are written.
-pub fn build_schemata(alloc: Global, raws: &[RawSchema]) -> Result<List<Schema>, NoMemory>
+pub(crate) fn build_schemata(alloc: Global, raws: &[RawSchema]) -> Result<List<Schema>, NoMemory>
     ensures { IfOk result (λ ss. ss ≡ map schema_of raws.now) }
 {
     let mut built = List::with_capacity(alloc, raws.len() as u64)?;

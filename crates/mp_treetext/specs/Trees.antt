@@ -13,22 +13,22 @@ use Rattle.mp_theory.specs.declared.just.Just.{Just}
 use Rattle.mp_theory.specs.declared.just.Just.TheVariants.{Rule}
 use Rattle.mp_theory.specs.declared.rule.Rule.{Rule as RuleOf}
 
--- a rule's name; nothing where there is no such rule
+-- a rule's name; nothing if there is no such rule
 abbrev pub rule_text : List (List ℕ) → Option RuleOf → List ℕ
 rule_text names (Some rule) = text_of names rule.name.0
 rule_text names None = []
 
--- where the first context ends: the number of the first hypothesis behind it, counted from 1; nothing where a step doesn't say it
+-- where the first context ends: the number of the first hypothesis after it, counted from 1; nothing if a step doesn't say it
 abbrev pub place_text : Option ℕ → List ℕ
 place_text None = []
 place_text (Some first) = codes " at " ++ decimal (first + 1)
 
--- a given term behind its need's name and its binders; 200 variables are in scope before these
+-- a given term after its need's name and its binders; 200 variables are in scope before these
 abbrev pub given_text : List (List ℕ) → Given → List ℕ
 given_text names given =
     text_of names given.name.0 ++ codes " := " ++ binders_text 200 given.arity ++ term_text names given.body (200 + given.arity)
 
--- the given terms in their order; nothing where there are none
+-- the given terms in their order; nothing if there are none
 abbrev pub all_given_text : List (List ℕ) → List Given → List ℕ
 all_given_text names given = list_text (codes " with [") (codes "]") (map (given_text names) given)
 
@@ -42,11 +42,11 @@ step_text names rules None = []
 abbrev pub goal_text : List (List ℕ) → Sequent → List ℕ
 goal_text names goal = codes " | " ++ sequent_text names goal ++ codes "\n"
 
--- what is printed behind an indentation
+-- what is printed after an indentation
 abbrev pub Indented : Type 0
 Indented = List ℕ → List ℕ
 
--- the texts one after the other, each behind the same indentation
+-- the texts one after the other, each after the same indentation
 abbrev pub all_indented : List ℕ → List Indented → List ℕ
 all_indented indent [] = []
 all_indented indent (t ∷ ts) = t indent ++ all_indented indent ts

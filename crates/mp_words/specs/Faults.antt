@@ -43,16 +43,16 @@ rank_of why.BadString = 33
 rank_of why.TooNested = 34
 rank_of why.Syntax = 35
 
--- f is reported rather than g: it is at an earlier place, where more words are left, or before it in the order at one place
+-- f is reported rather than g: it is at an earlier place, or at the same place and before it in the order of kinds
 abbrev pub is_sooner : Fault → Fault → Bool
 is_sooner f g = nat_lt g.left f.left || (nat_eq f.left g.left && nat_lt (rank_of f.why) (rank_of g.why))
 
--- the sooner one of a fault that is held, if any, and another
+-- the earlier one of two faults, the first of which may be absent
 abbrev pub sooner : Option Fault → Fault → Option Fault
 sooner None f = Some f
 sooner (Some g) f = if is_sooner f g then Some f else Some g
 
--- the soonest of a fault that is held, if any, and some more
+-- the earliest of the faults, a held one among them
 abbrev pub least_from : Option Fault → List Fault → Option Fault
 least_from held [] = held
 least_from held (f ∷ fs) = least_from (sooner held f) fs
@@ -75,29 +75,29 @@ abbrev pub fault_at_any : {X : Type 0} → (X → ℕ) → TextWhy → Option X 
 fault_at_any place w None = []
 fault_at_any place w (Some x) = fault (place x) w
 
--- where at most so many items may stand, the first one too many is a fault
+-- the fault of a list with more than so many items, at the first one too many
 abbrev pub too_many : {X : Type 0} → (X → ℕ) → ℕ → List X → List Fault
 too_many place most xs = fault_at_any place why.TooMany (slice_get xs most)
 
--- the fault, where the test passes
+-- the fault, if the test passes
 abbrev pub fault_if : Bool → ℕ → TextWhy → List Fault
 fault_if test l w = if test then fault l w else []
 
--- it is one of them
+-- the fault is one of the list
 abbrev pub IsOneOf : Fault → List Fault → Type 0
 IsOneOf f [] = ⊥
 IsOneOf f (g ∷ gs) = (f ≡ g) ⊎ IsOneOf f gs
 
--- none of them is sooner
+-- none of the faults is earlier
 abbrev pub NoneSooner : Fault → List Fault → Type 0
 NoneSooner f [] = Unit {0}
 NoneSooner f (g ∷ gs) = (is_sooner g f ≡ false) × NoneSooner f gs
 
--- the fault is one of these, and none of them is sooner; no fault only where there are none
+-- the fault is one of the list, and none of the list is earlier; None only if the list is empty
 abbrev pub IsLeastOf : List Fault → Option Fault → Type 0
 IsLeastOf fs None = fs ≡ []
 IsLeastOf fs (Some f) = IsOneOf f fs × NoneSooner f fs
 
--- the reported fault is one of the faults, and none of them is sooner; there is none only where there are no faults
+-- the reported fault is one of the faults, and none of them is earlier; None only if there are no faults
 abbrev pub LeastIsLeast : Type 0
 LeastIsLeast = (fs : List Fault) → IsLeastOf fs (least fs)

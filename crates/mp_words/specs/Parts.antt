@@ -82,7 +82,7 @@ Lacks A ts rest = None_of A ts × (rest ≡ ts)
 abbrev pub Both : {X Y : Type 0} → Part X → Part Y → Part (X × Y)
 Both A B v ts rest = (us : List Word) × A v.0 ts us × B v.1 us rest
 
--- stuck in the one, or behind it in the other
+-- stuck in the one, or after it in the other
 abbrev pub StuckBoth : {X : Type 0} → Part X → Stop → Stop → Stop
 StuckBoth {X} A SA SB ts rest = SA ts rest ⊎ ((x : X) × (us : List Word) × A x ts us × SB us rest)
 
@@ -90,23 +90,23 @@ StuckBoth {X} A SA SB ts rest = SA ts rest ⊎ ((x : X) × (us : List Word) × A
 abbrev pub After : {X : Type 0} → Sign → Part X → Part X
 After S A x ts rest = (us : List Word) × S ts us × A x us rest
 
--- stuck where the sign doesn't stand, or behind it in the part
+-- stuck where the sign doesn't stand, or after it in the part
 abbrev pub StuckAfter : Sign → Stop → Stop
 StuckAfter S SA ts rest = LacksSign S ts rest ⊎ ((us : List Word) × S ts us × SA us rest)
 
--- a name behind this word, and its place
+-- a name after this word, and its place
 abbrev pub IsNameBehind : Keyword → Part RawName
 IsNameBehind k = After (IsWord k) IsNameAt
 
--- where a name behind this word is stuck
+-- where a name after this word is stuck
 abbrev pub StuckNameBehind : Keyword → Stop
 StuckNameBehind k = StuckAfter (IsWord k) (Lacks IsNameAt)
 
--- the part behind its sign where the sign stands, and else this value, for which nothing is read
+-- the part after its sign where the sign stands, and else this value, for which nothing is read
 abbrev pub Optional : {X : Type 0} → Sign → X → Part X → Part X
 Optional S none A x ts rest = (No S ts × (x ≡ none) × (rest ≡ ts)) ⊎ After S A x ts rest
 
--- stuck in the part behind its sign, if that stands
+-- stuck in the part after its sign, if that stands
 abbrev pub StuckOptional : Sign → Stop → Stop
 StuckOptional S SA ts rest = (us : List Word) × S ts us × SA us rest
 
@@ -114,16 +114,16 @@ StuckOptional S SA ts rest = (us : List Word) × S ts us × SA us rest
 abbrev pub Ended : {X : Type 0} → Part X → Sign → Part X
 Ended A S x ts rest = (us : List Word) × A x ts us × S us rest
 
--- stuck in the part, or behind it where the sign doesn't stand
+-- stuck in the part, or after it where the sign doesn't stand
 abbrev pub StuckEnded : {X : Type 0} → Part X → Stop → Sign → Stop
 StuckEnded {X} A SA S ts rest = SA ts rest ⊎ ((x : X) × (us : List Word) × A x ts us × LacksSign S us rest)
 
--- the part behind its sign where the sign stands, and else none
+-- the part after its sign where the sign stands, else none
 abbrev pub Led : {X : Type 0} → Sign → Part X → Part (Option X)
 Led S A None ts rest = No S ts × (rest ≡ ts)
 Led S A (Some x) ts rest = After S A x ts rest
 
--- the part where it stands, and else none; this is never stuck
+-- the part where it stands, else none; this is never stuck
 abbrev pub IfThere : {X : Type 0} → Part X → Part (Option X)
 IfThere A None ts rest = None_of A ts × (rest ≡ ts)
 IfThere A (Some x) ts rest = A x ts rest
@@ -141,7 +141,7 @@ StuckMaybe SA ts rest = More ts × SA ts rest
 abbrev pub Whole : {X : Type 0} → Part X → Part X
 Whole A x ts rest = A x ts [] × (rest ≡ [])
 
--- where a part that is all of the words is stuck: in it, or at the first word behind it
+-- where a part that is all of the words is stuck: in it, or at the first word after it
 abbrev pub StuckWhole : {X : Type 0} → Part X → Stop → Stop
 StuckWhole {X} A SA ts rest = SA ts rest ⊎ ((x : X) × A x ts rest × More rest)
 
@@ -171,7 +171,7 @@ module _ {X : Type 0} (A : X → List Word → List Word → Type 0) where
     last : (xs : List X) (ts rest : List Word) (x : X) (us : List Word) → xs ≡ x ∷ [] → A x ts us → E us rest → Separated S E xs ts rest
     more : (xs : List X) (ts rest : List Word) (x : X) (others : List X) (us vs : List Word) → xs ≡ x ∷ others → A x ts us → No E us → S us vs → Separated S E others vs rest → Separated S E xs ts rest
 
-  -- where parts with a separator between and an end are stuck: in one of them, or behind one where neither stands
+  -- where parts with a separator between and an end are stuck: in one of them, or after one where neither stands
   pub data StuckSeparated (SA S E : List Word → List Word → Type 0) : List Word → List Word → Type 0 where
     here : (ts rest : List Word) → SA ts rest → StuckSeparated SA S E ts rest
     behind : (ts rest : List Word) (x : X) → A x ts rest → No E rest → No S rest → StuckSeparated SA S E ts rest
@@ -181,7 +181,7 @@ module _ {X : Type 0} (A : X → List Word → List Word → Type 0) where
 abbrev pub Listed : {X : Type 0} → Part X → Sign → Sign → Part (List X)
 Listed A S E xs ts rest = ((xs ≡ []) × E ts rest) ⊎ (No E ts × Separated A S E xs ts rest)
 
--- where a list that may end at once is stuck: only where it doesn't
+-- where a list that may end at once is stuck: only if it doesn't
 abbrev pub StuckListed : {X : Type 0} → Part X → Stop → Sign → Sign → Stop
 StuckListed A SA S E ts rest = No E ts × StuckSeparated A SA S E ts rest
 

@@ -14,7 +14,7 @@ is_between least most (negsuc n) = false
 abbrev pub number_faults : (least most : ℕ) → RawNumber → List Fault
 number_faults least most n = fault_if (not (is_between least most n.value)) n.left why.BadNumber
 
--- so is one that may be left out
+-- the fault of a number that may be left out, if it is out of range
 abbrev pub written_number_faults : (least most : ℕ) → Option RawNumber → List Fault
 written_number_faults least most None = []
 written_number_faults least most (Some n) = number_faults least most n

@@ -22,7 +22,7 @@ use Rattle.mp_words.specs.Words.{pieces_of, words_of, names_after}
 abbrev pub words_in : List (List ℕ) → List ℕ → List Token → List Word
 words_in names source ts = words_of names (pieces_of source ts)
 
--- the table of names behind the tokens; behind a lexical fault it is as it was
+-- the table of names after the tokens; after a lexical fault it is as it was
 abbrev pub names_by : List (List ℕ) → List ℕ → Lexing → List (List ℕ)
 names_by names source (Ok ts) = names_after names (pieces_of source ts)
 names_by names source (Err f) = names
@@ -39,12 +39,12 @@ of_lexical lex_why.BadNumber = why.BadNumber
 of_lexical lex_why.BadString = why.BadString
 of_lexical lex_why.TooNested = why.TooNested
 
--- the first byte of the token, or this byte where there is none
+-- the first byte of the token, or this byte if there is none
 abbrev pub from_or : ℕ → Option Token → ℕ
 from_or end None = end
 from_or end (Some t) = t.from
 
--- the byte where so many words are left: the first byte of the first one's token, or the text's length where none is left
+-- the byte where so many words are left: the first byte of the first one's token, or the text's length if none is left
 abbrev pub byte_of : List ℕ → List Token → ℕ → ℕ
 byte_of source ts l = from_or (length source) (slice_get ts (length ts - l))
 
@@ -52,7 +52,7 @@ byte_of source ts l = from_or (length source) (slice_get ts (length ts - l))
 abbrev pub error_at : List ℕ → List Token → ℕ → TextWhy → TextErr
 error_at source ts l w = record { at = byte_of source ts l; why = w }
 
--- the tokens of a text and their words, or its lexical fault, and the table of names behind it; nothing where memory ran out
+-- the tokens of a text and their words, or its lexical fault, and the table of names after it; nothing if memory ran out
 abbrev pub LexesText : List (List ℕ) → List ℕ → Result Lexed TextFail → List (List ℕ) → Type 0
 LexesText old source (Ok text) new = (lex source ≡ Ok text.tokens) × (text.words ≡ words_in old source text.tokens) × (new ≡ names_in old source)
 LexesText old source (Err (fail.Bad e)) new = (w : LexWhy) × (lex source ≡ Err (e.at, w)) × (e.why ≡ of_lexical w) × (new ≡ names_in old source)
@@ -79,7 +79,7 @@ module _ {X V : Type 0} (Is : X → List Word → List Word → Type 0) (Stuck :
     stuck : (ts : List Token) (rest : List Word) → lex source ≡ Ok ts → Stuck (words_in names source ts) rest → e ≡ error_at source ts (length rest) why.Syntax → IsFaulty names source e
     broken : (ts : List Token) (raw : X) (f : Fault) → lex source ≡ Ok ts → Is raw (words_in names source ts) [] → least (faults raw) ≡ Some f → e ≡ error_at source ts f.left f.why → IsFaulty names source e
 
-  -- what a reader answers of a text, and the table of names behind it
+  -- what a reader answers of a text, and the table of names after it
   abbrev pub ReadsText : List (List ℕ) → List ℕ → Result V TextFail → List (List ℕ) → Type 0
   ReadsText old source (Ok v) new = IsText old source v × (new ≡ names_in old source)
   ReadsText old source (Err (fail.Bad e)) new = IsFaulty old source e × (new ≡ names_in old source)

@@ -52,7 +52,7 @@ other_marks =
     ∷ (codes "&", mark.And) ∷ (codes ",", mark.Comma) ∷ (codes ";", mark.Semicolon) ∷ (codes ":", mark.Colon)
     ∷ (codes ":=", mark.Becomes) ∷ (codes ".", mark.Dot) ∷ (codes "@", mark.At) ∷ []
 
--- the mark, or the bar where there is none
+-- the mark, or the bar if there is none
 abbrev pub or_bar : Option Mark → Mark
 or_bar None = mark.Bar
 or_bar (Some m) = m
@@ -71,7 +71,7 @@ abbrev pub integer_of : List ℕ → ℤ
 integer_of [] = pos 0
 integer_of (b ∷ bs) = if nat_eq b 45 then minus (number_of_digits bs) else pos (number_of_digits (b ∷ bs))
 
--- what the bytes up to the closing quote stand for: a byte behind a `\` is itself; the first argument says whether a `\` is before
+-- what the bytes up to the closing quote stand for: a byte after a `\` is itself; the first argument says whether a `\` is before
 abbrev pub unescaped : Bool → List ℕ → List ℕ
 unescaped escaped [] = []
 unescaped true (b ∷ bs) = b ∷ unescaped false bs
@@ -101,7 +101,7 @@ abbrev pub entered_if : List (List ℕ) → Option (List ℕ) → List (List ℕ
 entered_if names None = names
 entered_if names (Some name) = entered names name
 
--- the table of names behind a piece
+-- the table of names after a piece
 abbrev pub names_with : List (List ℕ) → Piece → List (List ℕ)
 names_with names p = entered_if names (name_of p.kind p.text)
 
