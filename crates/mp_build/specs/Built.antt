@@ -18,19 +18,19 @@ term_of v p = inst_of (ground_at v (λ name. 0)) v.values p [] v.ambient
 abbrev pub is_small_term : Term → Bool
 is_small_term t = is_shallow t && nat_le (size_of t) 20000
 
--- this term where it is small; too large exactly where it isn't
+-- this term if it is small; too large exactly if it isn't
 abbrev pub IsBuiltTerm : Term → Result Term BuildErr → Type 0
 IsBuiltTerm t (Ok made) = (made ≡ t) × IsTrue (is_small_term t)
 IsBuiltTerm t (Err TooLarge) = IsFalse (is_small_term t)
 IsBuiltTerm t (Err NoMemory) = Unit {0}
 
--- this sequent where it is within limits; too large exactly where it isn't
+-- this sequent if it is within limits; too large exactly if it isn't
 abbrev pub IsBuilt : Sequent → Result Sequent BuildErr → Type 0
 IsBuilt s (Ok made) = (made ≡ s) × IsTrue (within_limits_of s)
 IsBuilt s (Err TooLarge) = IsFalse (within_limits_of s)
 IsBuilt s (Err NoMemory) = Unit {0}
 
--- nothing to say where the test passes; too large where it fails
+-- nothing to say if the test passes; too large if it fails
 abbrev pub IsChecked : Bool → Result (Unit {0}) BuildErr → Type 0
 IsChecked within (Ok done) = IsTrue within
 IsChecked within (Err TooLarge) = IsFalse within

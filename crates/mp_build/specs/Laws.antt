@@ -36,11 +36,11 @@ pub record HasFewBinders (v : Instance) : Type 0 where
   pub metas : (name : Sym) → IsTrue (few_binders_of (v.values.meta name))
   pub kept : (name : Sym) → All (λ t. IsTrue (few_binders_of t)) (v.kept name)
 
--- where the values and the schema have few binders, so has the sequent that is made
+-- if values and schema have few binders, so has the sequent that is made
 abbrev pub SequentHasFewBinders : Type 0
 SequentHasFewBinders = (v : Instance) (s : Schema) → HasFewBinders v → IsTrue (few_of_schema s) → IsTrue (sequent_few_binders_of (seq v s))
 
--- and the term
+-- if values and pattern have few binders, so has the term that is made
 abbrev pub TermHasFewBinders : Type 0
 TermHasFewBinders = (v : Instance) (p : Pattern) → HasFewBinders v → IsTrue (few_of p) → IsTrue (few_binders_of (term_of v p))
 
@@ -58,7 +58,7 @@ pub record IsTame (v : Instance) : Type 0 where
   pub many : (name : Sym) → length (v.kept name) ≤ 200
   pub kept : (name : Sym) → All IsTameTerm (v.kept name)
 
--- entries make such values, where each is such a term
+-- entries make tame values, if each of their terms is tame, and no context has more than 200 hypotheses
 pub record HasTameEntries (i : Inst) : Type 0 where
   pub ambient : i.ambient ≤ 10000
   pub metas : All (λ (x : MetaVal). IsTameTerm x.body) i.metas
@@ -73,17 +73,17 @@ TameEntries = (i : Inst) → HasTameEntries i → IsTame (instance_of i)
 abbrev pub TameValues : Type 0
 TameValues = (v : Instance) → IsTame v → HasFewBinders v
 
--- where the values are tame and the schema is within its limits, no scope on the way reaches 2^31
+-- if the values are tame and the schema is within its limits, no scope in making the sequent reaches 2^31
 abbrev pub SchemaIsNarrow : Type 0
 SchemaIsNarrow = (v : Instance) (s : Schema) → IsTame v → IsTrue (few_of_schema s) → IsTrue (is_shallow_schema s) → schema_room v s < 2 ^ 31
 
--- nor for a term
+-- if the values are tame and the pattern is within its limits, no scope in making the term reaches 2^31
 abbrev pub PatternIsNarrow : Type 0
 PatternIsNarrow = (v : Instance) (p : Pattern) → IsTame v → IsTrue (few_of p) → IsTrue (is_shallow_pattern p) → room (wide_of v) v.values p v.ambient < 2 ^ 31
 
 -- ## Patterns without contexts
 
--- what stands before the arguments matters only where there are no contexts
+-- an instance of a pattern that lists no context asks only for the ambient variables
 abbrev pub PlainInstance : Type 0
 PlainInstance =
     (before other : Ground) (v : Values) (p : Pattern) → IsTrue (lists_known [] p) → before [] ≡ other [] →

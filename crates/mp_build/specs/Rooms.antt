@@ -21,7 +21,7 @@ module _ (wide : Wide) (v : Values) where
   room_step (layer.Op op params subs) m = widest_at m subs
   room_step (layer.Meta name ctxs args) m = widest_of (v.meta name) (wide ctxs + length args) + widest_at m args
 
-  -- that of a bound body, in the scope behind its binders
+  -- the widest scope of a bound body, from that of its pattern in the scope after its binders
   abbrev pub room_bound_step : PBound-F Widths Widths → Widths
   room_bound_step b m = max (m + b.binders) (b.body (m + b.binders))
 
@@ -29,7 +29,7 @@ module _ (wide : Wide) (v : Values) where
   abbrev pub room : Pattern → Widths
   room = fold-Pattern Widths Widths room_step room_bound_step
 
-  -- so of a bound body
+  -- the widest scope in making a bound body
   abbrev pub room_bound : PBound → Widths
   room_bound = fold-PBound Widths Widths room_step room_bound_step
 
@@ -38,18 +38,18 @@ abbrev pub IsNarrowSomewhere : Widths → Type 0
 IsNarrowSomewhere widths = (m : ℕ) × (widths m < 2 ^ 31)
 
 module _ (v : Instance) where
-  -- so of the hypotheses of a context that begins at level c, from number j on
+  -- the widest scope in making the hypotheses of a context that begins at level c, from number j on
   abbrev pub telescope_room : List Sym → List Pattern → ℕ → ℕ → List Term → ℕ
   telescope_room ctxs args c j [] = wide_of v ctxs + widest_at (c + j) (map (room (wide_of v) v.values) args)
   telescope_room ctxs args c j (t ∷ ts) =
       max (widest_of t (wide_of v ctxs + length args + j) + widest_at (c + j) (map (room (wide_of v) v.values) args)) (telescope_room ctxs args c (suc j) ts)
 
-  -- of an item that is made where there are m hypotheses
+  -- the widest scope in making an item after m hypotheses
   abbrev pub item_room : Item → Widths
   item_room (Hyp p) m = room (wide_of v) v.values p m
   item_room (Ctx name ctxs args) m = telescope_room ctxs args m 0 (v.kept name)
 
-  -- of items and the conclusion behind them
+  -- the widest scope in making items and the conclusion after them
   abbrev pub items_room : List Item → Pattern → Widths
   items_room [] concl m = room (wide_of v) v.values concl m
   items_room (i ∷ is) concl m = max (item_room i m) (items_room is concl (m + item_count v i))

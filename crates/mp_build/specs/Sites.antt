@@ -22,7 +22,7 @@ use Rattle.mp_build.specs.Sizes.{item_count}
 abbrev pub with_start : (Sym → ℕ) → Start → Sym → ℕ
 with_start pos s name = if nat_eq name.0 s.name.0 then s.level else pos name
 
--- the level at which each context begins; 0 where it isn't there
+-- the level at which each context begins; 0 if it isn't there
 abbrev pub start_of : List Start → Sym → ℕ
 start_of starts = fold with_start (λ name. 0) starts
 
@@ -52,7 +52,7 @@ abbrev pub the_blank : Term
 the_blank = Op (record { 0 = 0 }) [] []
 
 module _ (v : Instance) (l : Spot) (base : ℕ) (t : Term) where
-  -- the terms of the arguments, the first of which has this level, where they stand in the term
+  -- the terms of those arguments that stand in the term, the first of which has this level, and a blank for each other
   abbrev pub used_terms : ℕ → List Pattern → ℕ → List Term
   used_terms level [] m = []
   used_terms level (a ∷ rest) m = (if occurs_in level t then made_at v l base a m else the_blank) ∷ used_terms (level + 1) rest m
@@ -74,7 +74,7 @@ pub record IsBuildable (v : Instance) (l : Spot) (base : ℕ) (p : Pattern) (m :
   pub listed : IsTrue (lists_known known p)
   pub narrow : room (wide_of v) v.values p m < 2 ^ 31
 
--- so of bodies
+-- what making bodies asks
 pub record AreBuildableBodies (v : Instance) (l : Spot) (base : ℕ) (bs : List PBound) (m : ℕ) : Type 0 where
   pub known : List Sym
   pub spot : IsSpot v l known
@@ -85,7 +85,7 @@ pub record AreBuildableBodies (v : Instance) (l : Spot) (base : ℕ) (bs : List 
   pub listed : IsTrue (all_pass (map (lists_known_bound known) bs))
   pub narrow : widest_at m (map (room_bound (wide_of v) v.values) bs) < 2 ^ 31
 
--- and of arguments
+-- what making arguments asks
 pub record AreBuildableArgs (v : Instance) (l : Spot) (base : ℕ) (args : List Pattern) (m : ℕ) : Type 0 where
   pub known : List Sym
   pub spot : IsSpot v l known
@@ -104,7 +104,7 @@ pub record IsSubstitutable (t : Term) (terms : List Term) (m : ℕ) : Type 0 whe
   pub narrow : widest_of t (length terms) < 2 ^ 31
   pub made_narrow : widest_of (sub_of t terms m) m < 2 ^ 31
 
--- what the hypotheses of a context from number j on ask, where these are left of its terms
+-- what making the hypotheses of a context from number j on asks, if these are left of its terms
 pub record IsRowBuildable (v : Instance) (l : Spot) (ctxs : List Sym) (args : List Pattern) (j : ℕ) (ts : List Term) : Type 0 where
   pub known : List Sym
   pub spot : IsSpot v l known
@@ -136,7 +136,7 @@ pub record IsItemBuildable (v : Instance) (l : Spot) (i : Item) : Type 0 where
   pub narrow : item_room v i l.next < 2 ^ 31
   pub few : l.next + item_count v i < 2 ^ 31
 
--- what the items and the conclusion behind them ask
+-- what making the items and the conclusion after them asks
 pub record AreItemsBuildable (v : Instance) (l : Spot) (is : List Item) (concl : Pattern) : Type 0 where
   pub before : Before
   pub stands : IsBefore v l before

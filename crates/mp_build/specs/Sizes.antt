@@ -56,7 +56,7 @@ module _ (wide : Wide) (v : Values) where
   abbrev pub inst_depth_bound : PBound → ℕ
   inst_depth_bound = fold-PBound ℕ ℕ inst_depth_step pattern_body_step
 
--- the numbers of the arguments, the first of which has this level, where they stand in the term, and 1 for the others
+-- the numbers of those arguments that stand in the term, the first of which has this level, and 1 for the others
 abbrev pub used_from : (Pattern → ℕ) → Term → ℕ → List Pattern → List ℕ
 used_from f t level [] = []
 used_from f t level (a ∷ rest) = (if occurs_in level t then f a else 1) ∷ used_from f t (level + 1) rest
@@ -72,12 +72,12 @@ pub record IsWeight (size depth : ℕ) (w : Weight) : Type 0 where
 abbrev pub IsOver : ℕ → ℕ → Type 0
 IsOver size depth = size ≤ 20000 → 200 < depth
 
--- the weight where both are within the limits, and none where one is over
+-- the weight if both are within the limits, and none if one is over
 abbrev pub IsWeighed : ℕ → ℕ → Option Weight → Type 0
 IsWeighed size depth None = IsOver size depth
 IsWeighed size depth (Some w) = IsWeight size depth w
 
--- the same, or want of memory
+-- the weight, TooLarge if over a limit, or want of memory
 abbrev pub IsWeighing : ℕ → ℕ → Result Weight BuildErr → Type 0
 IsWeighing size depth (Ok w) = IsWeight size depth w
 IsWeighing size depth (Err TooLarge) = IsOver size depth
@@ -88,7 +88,7 @@ module _ (v : Instance) where
   abbrev pub applied_size : List Sym → List Pattern → Term → ℕ
   applied_size ctxs args t = sub_size (behind_ones (wide_of v ctxs) (map (inst_size (wide_of v) v.values) args)) t
 
-  -- its depth
+  -- the depth of a value applied to its contexts and arguments
   abbrev pub applied_depth : List Sym → List Pattern → Term → ℕ
   applied_depth ctxs args t = sub_depth (behind_ones (wide_of v ctxs) (map (inst_depth (wide_of v) v.values) args)) t
 

@@ -15,11 +15,9 @@ use crate::values::kept_count;
 use crate::weights::limited;
 use mp_logic::Sym;
 use mp_schema::{Inst, Item, Pattern, Schema, context_value};
+use mp_term::limits::MOST_HYPOTHESES;
 use mp_term::{Term, Weight};
 use std::alloc::Global;
-
-/// The greatest number of hypotheses of a sequent that is built.
-const MOST_HYPOTHESES: u64 = 200;
 
 /// TooLarge exactly where the sequent that the schema makes isn't within the limits. It isn't built.
 ///

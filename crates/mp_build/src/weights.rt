@@ -3,13 +3,8 @@ ghost use Rattle.mp_subst.specs.Sizes.{sub_size, sub_depth};
 ghost use Rattle.mp_subst.specs.Subst.{occurs_in};
 ghost use Rattle.mp_build.specs.Sizes.{behind_ones, IsWeighed};
 
+use mp_term::limits::{MOST_DEPTH, MOST_NODES};
 use mp_term::{Term, Weight};
-
-/// The greatest depth of a term that is built.
-const MOST_DEPTH: u64 = 200;
-
-/// The greatest number of variables and operators of a term or sequent that is built.
-const MOST_NODES: u64 = 20000;
 
 /// The weight of this size and this depth; None where one of both is over its limit.
 pub(crate) fn limited(size: u64, depth: u64) -> Option<Weight>

@@ -21,18 +21,18 @@ is_there None = false
 is_there (Some x) = true
 
 module _ (has_meta has_param : Sym → Bool) where
-  -- a parameter that is written has a value, and a hole where its name has one
+  -- a parameter that is written has a value, and a hole if its name has one
   abbrev pub param_covered : ParamPat → Bool
   param_covered (Lit p) = true
   param_covered (Hole name) = has_param name
 
-  -- one layer is covered where its own name, its parameters and its parts are
+  -- one layer is covered if its own name, its parameters and its parts are
   abbrev pub covered_step : Pattern-F Bool Bool → Bool
   covered_step (layer.Var level) = true
   covered_step (layer.Op op params subs) = list_all param_covered params && all_pass subs
   covered_step (layer.Meta name ctxs args) = has_meta name && all_pass args
 
-  -- a bound body is covered where its pattern is
+  -- a bound body is covered if its pattern is
   abbrev pub covered_bound_step : PBound-F Bool Bool → Bool
   covered_bound_step b = b.body
 
@@ -40,7 +40,7 @@ module _ (has_meta has_param : Sym → Bool) where
   abbrev pub covered : Pattern → Bool
   covered = fold-Pattern Bool Bool covered_step covered_bound_step
 
-  -- so of a bound body
+  -- each second-order variable and each hole of a bound body has a value
   abbrev pub covered_bound : PBound → Bool
   covered_bound = fold-PBound Bool Bool covered_step covered_bound_step
 
@@ -48,7 +48,7 @@ module _ (has_meta has_param : Sym → Bool) where
 abbrev pub is_covered : Inst → Pattern → Bool
 is_covered i p = covered (λ name. is_there (find_meta i.metas name)) (λ name. is_there (find_param i.params name)) p
 
--- so have an item's, and the item's context
+-- each second-order variable and each hole of an item has a value, and so has its context
 abbrev pub item_covered : Inst → Item → Bool
 item_covered i (Hyp p) = is_covered i p
 item_covered i (Ctx name ctxs args) = is_there (find_ctx i.ctxs name) && all_pass (map (is_covered i) args)

@@ -19,7 +19,7 @@ given_levels ctxs names arity = variables_of ctxs names ++ upto 200 arity
 abbrev pub with_value : Inst → Sym → ℕ → Term → Inst
 with_value i name scope value = let x : MetaVal = record { name = name; scope = scope; body = value } in record i { metas = i.metas ++ x ∷ [] }
 
--- the instance with the value that gives the body; None where the body has another variable
+-- the instance with the value that gives the body; None if the body has another variable
 abbrev pub given_to : Inst → Sym → List Sym → ℕ → Term → Option Inst
 given_to i name ctxs arity body =
     let levels = given_levels i.ctxs ctxs arity in option_map (with_value i name (length levels)) (unrenamed levels (200 + arity) body)

@@ -18,7 +18,7 @@ use Rattle.mp_match.specs.Matches.{term_match}
 use Rattle.mp_match.specs.Solutions.{Agrees, IsTermInstance, IsInstance}
 use Rattle.mp_match.specs.Walks.{match_of, widest_in_sequent}
 
--- no scope in a goal within limits is wide, where no subterm has more than 8 binders
+-- no scope in a goal within limits is wide, if no subterm has more than 8 binders
 abbrev pub GoalsAreNarrow : Type 0
 GoalsAreNarrow = (s : Sequent) → IsTrue (within_limits_of s) → IsTrue (sequent_few_binders_of s) → widest_in_sequent s ≤ 1800
 
@@ -28,7 +28,7 @@ MatchesAreInstances =
     (s : Schema) (first : Option ℕ) (goal : Sequent) → IsTrue (is_conclusion s) → (IsSome first ↔ IsTrue (has_two_contexts s)) → IsTrue (sequent_in_scope_of goal) →
     widest_in_sequent goal < 2 ^ 31 → IsInstance s first goal (match_of s first goal) × IfSome (match_of s first goal) (λ i. IsTrue (schema_covered i s))
 
--- so it is for terms
+-- an instance of a pattern is what matching finds
 abbrev pub TermMatchesAreInstances : Type 0
 TermMatchesAreInstances =
     (redex : Pattern) (scope : ℕ) (t : Term) → IsTrue ((seen redex).fine 0) → IsTrue (lists_known [] redex) → IsTrue (in_scope_of t scope) →
@@ -40,7 +40,7 @@ AgreeingTerms =
     (i : Inst) (v w : Instance) → Agrees v i → Agrees w i → (p : Pattern) → IsTrue (is_covered i p) →
     (front : Ground) (env : List Term) (m : ℕ) → inst_of front v.values p env m ≡ inst_of front w.values p env m
 
--- and a schema that is covered the same sequent
+-- instances that agree with what is found make a schema that is covered the same sequent
 abbrev pub AgreeingSequents : Type 0
 AgreeingSequents =
     (i : Inst) (v w : Instance) → Agrees v i → Agrees w i → (s : Schema) → IsTrue (is_placed s) → IsTrue (schema_covered i s) → seq v s ≡ seq w s

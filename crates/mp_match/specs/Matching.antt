@@ -55,13 +55,13 @@ meta_found name levels scope t found =
 
 -- ## Patterns
 
--- what a pattern is to a match: its level where it is a variable, and what it finds, where its levels are these
+-- what a pattern is to a match: its level if it is a variable, and what it finds, if its levels are these
 -- variables, in a term of some scope, beside what is found already
 pub record Matcher : Type 0 where
   pub level : Option ℕ
   pub finds : List ℕ → ℕ → Term → Found → Option Found
 
--- the same of a bound body
+-- what a bound body is to a match: what it finds
 pub record BoundMatcher : Type 0 where
   pub finds : List ℕ → ℕ → Bound → Found → Option Found
 
@@ -72,7 +72,7 @@ all_found [] levels scope (x ∷ xs) found = None
 all_found (b ∷ bs) levels scope [] found = None
 all_found (b ∷ bs) levels scope (x ∷ xs) found = option_and_then (all_found bs levels scope xs) (b.finds levels scope x found)
 
--- it has to be the same operator with as many parameters and bodies
+-- an operator finds the same operator with as many parameters and bodies
 abbrev pub op_found : Sym → List ParamPat → List BoundMatcher → List ℕ → ℕ → Found → Term-F Term Bound → Option Found
 op_found op params subs levels scope found (term_layer.Var level) = None
 op_found op params subs levels scope found (term_layer.Op other values bodies) =
@@ -92,7 +92,7 @@ module _ (front : Ground) where
   matcher_step (layer.Meta name ctxs args) =
       record { level = None; finds = λ levels scope t found. meta_found name (front ctxs ++ map (λ (a : Matcher). argument levels a.level) args) scope t found }
 
-  -- a bound body has to have as many binders, and finds in the scope behind them
+  -- a bound body finds a body with as many binders, in the scope after them
   abbrev pub matcher_bound_step : PBound-F Matcher BoundMatcher → BoundMatcher
   matcher_bound_step b =
       record {
@@ -109,6 +109,6 @@ module _ (front : Ground) where
   matcher_bound = fold-PBound Matcher BoundMatcher matcher_step matcher_bound_step
 
   -- what a pattern whose levels are these variables finds in a term of this scope, beside what is found already; None
-  -- where some value would have to be two terms, or the term is none of the pattern's
+  -- if some value would have to be two terms, or the term is none of the pattern's
   abbrev pub found_in : Pattern → List ℕ → ℕ → Term → Found → Option Found
   found_in p levels scope t found = (matcher p).finds levels scope t found

@@ -52,7 +52,7 @@ IsInstance s first goal (Some i) = GivesGoal s first goal (instance_of i) × Beg
 
 -- ## Terms
 
--- the variables that a value has before its arguments, where there are no contexts
+-- the variables that a value has before its arguments, if there are no contexts
 abbrev pub ambient_only : ℕ → Ground
 ambient_only a names = upto 0 a
 

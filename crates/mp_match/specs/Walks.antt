@@ -29,7 +29,7 @@ named_in (Hyp p ∷ is) = suc (named_in is)
 named_in (Ctx name ctxs args ∷ is) = named_in is
 
 -- the sizes of contexts that take so many hypotheses together: a first one of a known size and another, or a single
--- one, or none; None where one would be negative or some hypothesis is left
+-- one, or none; None if one would be negative or some hypothesis is left
 abbrev pub shared : List Sym → Option ℕ → ℕ → Option Sizes
 shared [] first zero = Some (record { first = 0; later = 0 })
 shared [] first (suc left) = None
@@ -52,29 +52,29 @@ abbrev pub taken : Sizes → Item → List CtxVal → ℕ
 taken sizes (Hyp p) ctxs = 1
 taken sizes (Ctx name names args) ctxs = size_after sizes ctxs
 
--- how many hypotheses the items take, where the next context takes so many and each later one so many
+-- how many hypotheses the items take, if the next context takes so many and each later one so many
 abbrev pub needed : List Item → ℕ → ℕ → ℕ
 needed [] size later = 0
 needed (Hyp p ∷ is) size later = suc (needed is size later)
 needed (Ctx name names args ∷ is) size later = size + needed is later later
 
--- the place behind a named hypothesis
+-- the place after a named hypothesis
 abbrev pub past_named : Place → Place
 past_named place = record place { named = place.named ++ place.next ∷ []; next = place.next + 1 }
 
--- the place behind a context with these hypotheses
+-- the place after a context with these hypotheses
 abbrev pub past_context : Sym → Place → List Term → Place
 past_context name place hyps =
     let x : CtxVal = record { name = name; first = place.next; hyps = hyps } in
     record place { ctxs = place.ctxs ++ x ∷ []; next = place.next + length hyps }
 
--- what a named hypothesis finds, and the place behind it
+-- what a named hypothesis finds, and the place after it
 abbrev pub hyp_found : Pattern → Term → Walk → Option Walk
 hyp_found p t w =
     option_map (λ (found : Found). record { place = past_named w.place; found = found })
     (found_in (ground_of w.place) p (levels_at w.place w.place.next) w.place.next t w.found)
 
--- the term and the rest, where there are both
+-- the term and the rest, if there are both
 abbrev pub kept_with : Option Term → Option (List Term) → Option (List Term)
 kept_with None rest = None
 kept_with (Some t) rest = option_map (λ ts. t ∷ ts) rest
@@ -88,12 +88,12 @@ kept_found levels m (t ∷ ts) = kept_with (unrenamed levels m t) (kept_found (l
 abbrev pub context_levels : List Sym → List Pattern → Place → List ℕ
 context_levels ctxs args place = ground_of place ctxs ++ map (λ (a : Seen). argument (levels_at place place.next) a.level) (map seen args)
 
--- the place behind a context that keeps these hypotheses
+-- the place after a context that keeps these hypotheses
 abbrev pub context_found : Sym → List Sym → List Pattern → List Term → Place → Option Place
 context_found name ctxs args hyps place = option_map (past_context name place) (kept_found (context_levels ctxs args place) place.next hyps)
 
 module _ (sizes : Sizes) where
-  -- what an item finds, where the goal has these hypotheses from its place on
+  -- what an item finds, if the goal has these hypotheses from its place on
   abbrev pub item_found : Item → List Term → Walk → Option Walk
   item_found (Hyp p) [] w = None
   item_found (Hyp p) (t ∷ ts) w = hyp_found p t w
@@ -115,13 +115,13 @@ first_walk = record { place = record { ambient = 0; ctxs = []; named = []; next 
 abbrev pub concl_found : Pattern → Term → Walk → Option Inst
 concl_found p t w = option_map (as_instance w.place) (found_in (ground_of w.place) p (levels_at w.place w.place.next) w.place.next t w.found)
 
--- the instance that makes the schema this goal, whose first context has the size `first` where there are two
+-- the instance that makes the schema this goal, whose first context has the size `first` if there are two
 abbrev pub match_of : Schema → Option ℕ → Sequent → Option Inst
 match_of s first goal =
     option_and_then (λ (sizes : Sizes). option_and_then (concl_found s.concl goal.concl) (items_found sizes goal.hyps s.items first_walk))
     (sizes_of s.items first (length goal.hyps))
 
--- the widest scope in terms of which the first is in scope m, the next in scope m + 1, and so on; or the scope behind them
+-- the widest scope in terms of which the first is in scope m, the next in scope m + 1, and so on; or the scope after them
 abbrev pub widest_from : ℕ → List Term → ℕ
 widest_from m [] = m
 widest_from m (t ∷ ts) = max (widest_of t m) (widest_from (m + 1) ts)

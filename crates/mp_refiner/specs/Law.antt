@@ -33,7 +33,7 @@ pub record IsStepBy (rules : List Rule) (place : ℕ) (rule : Rule) (first : Opt
   pub bad_argument : (step_by rules (just.Rule place first given) goal ≡ Err BadArgument) ↔ Misgiven rule first given goal
   pub too_large : (step_by rules (just.Rule place first given) goal ≡ Err TooLarge) ↔ LargeStep rule first given goal
 
--- so is each step by a rule of a theory that is allowed, on a good goal
+-- each step by an allowed justification on a good goal is what instances say
 abbrev pub StepLaw : Type 0
 StepLaw =
     (rules : List Rule) (place : ℕ) (rule : Rule) (first : Option ℕ) (given : List Given) (goal : Sequent) → slice_get rules place ≡ Some rule → IsRule rule →

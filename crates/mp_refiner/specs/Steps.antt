@@ -17,7 +17,7 @@ use Rattle.mp_theory.specs.declared.just.Just.{Just}
 use Rattle.mp_theory.specs.declared.just.Just.TheVariants as just
 use Rattle.mp_theory.specs.Needs.{needs_of}
 
--- the instance with the values of the needs; None where a given term uses another variable than its need may
+-- the instance with the values of the needs; None if a given term uses another variable than its need may
 abbrev pub given_all : List Need → List Given → Inst → Option Inst
 given_all [] gs i = Some i
 given_all (n ∷ ns) [] i = Some i

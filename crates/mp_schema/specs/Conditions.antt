@@ -13,7 +13,7 @@ use Rattle.mp_schema.specs.Instances.{all_pass}
 
 -- ## Variables in range
 
--- one layer of a pattern is in range where its variable and its parts are
+-- one layer of a pattern is in range if its variable and its parts are
 abbrev pub below_step : Pattern-F Scoped Scoped → Scoped
 below_step (layer.Var level) d = nat_lt level d
 below_step (layer.Op op params subs) d = at_scope d subs
@@ -27,7 +27,7 @@ below_bound_step b d = b.body (d + b.binders)
 abbrev pub below : Pattern → Scoped
 below = fold-Pattern Scoped Scoped below_step below_bound_step
 
--- so is each variable of a bound body
+-- each variable of the bound body is one of d levels or a binder before it
 abbrev pub below_bound : PBound → Scoped
 below_bound = fold-PBound Scoped Scoped below_step below_bound_step
 
@@ -53,7 +53,7 @@ abbrev pub is_known : List Sym → List Sym → Bool
 is_known known names = has_all known names && is_apart names
 
 module _ (known : List Sym) where
-  -- one layer's lists are known where its own list and its parts' are
+  -- the lists of one layer are known if its own list and those of its parts are
   abbrev pub lists_known_step : Pattern-F Bool Bool → Bool
   lists_known_step (layer.Var level) = true
   lists_known_step (layer.Op op params subs) = all_pass subs
@@ -67,7 +67,7 @@ module _ (known : List Sym) where
   abbrev pub lists_known : Pattern → Bool
   lists_known = fold-Pattern Bool Bool lists_known_step lists_known_bound_step
 
-  -- so has each list in a bound body
+  -- each list of contexts in a bound body has only these names, and none twice
   abbrev pub lists_known_bound : PBound → Bool
   lists_known_bound = fold-PBound Bool Bool lists_known_step lists_known_bound_step
 
@@ -79,7 +79,7 @@ pub record Seen : Type 0 where
   pub level : Option ℕ
   pub fine : ℕ → Bool
 
--- the same of a bound body
+-- whether each second-order variable of a bound body, below so many levels, is applied to distinct variables
 pub record SeenBound : Type 0 where
   pub fine : ℕ → Bool
 
@@ -93,7 +93,7 @@ abbrev pub is_variable : ℕ → Option ℕ → Bool
 is_variable d None = false
 is_variable d (Some level) = nat_lt level d
 
--- the level, or 0 where there is none
+-- the level, or 0 if there is none
 abbrev pub or_zero : Option ℕ → ℕ
 or_zero None = 0
 or_zero (Some level) = level
@@ -168,12 +168,12 @@ module _ (good : Item → Before → Bool) where
 abbrev pub pattern_placed : Pattern → Before → Bool
 pattern_placed p b = below p b.named && lists_known b.contexts p
 
--- so are all patterns
+-- the variables of all patterns are in range, and their lists have only contexts before them
 abbrev pub all_placed : List Pattern → Before → Bool
 all_placed [] b = true
 all_placed (p ∷ ps) b = pattern_placed p b && all_placed ps b
 
--- so are an item's, and a context is no item before
+-- an item's patterns are well placed, and its context isn't an earlier item
 abbrev pub item_placed : Item → Before → Bool
 item_placed (Hyp p) b = pattern_placed p b
 item_placed (Ctx name ctxs args) b = not (has b.contexts name) && is_known b.contexts ctxs && all_placed args b
@@ -190,7 +190,7 @@ abbrev pub item_fine : Item → Before → Bool
 item_fine (Hyp p) b = (seen p).fine b.named
 item_fine (Ctx name ctxs args) b = args_fine b.named (map seen args)
 
--- so are all second-order variables and contexts of the schema
+-- all second-order variables and contexts of the schema are applied to distinct variables
 abbrev pub is_fine : Schema → Bool
 is_fine s = each_item item_fine s.items nothing_before && (seen s.concl).fine (past_all s.items nothing_before).named
 
@@ -213,10 +213,11 @@ abbrev pub item_between : Item → Before → Bool
 item_between (Hyp p) b = nat_eq (length b.contexts) 1
 item_between (Ctx name ctxs args) b = true
 
--- where there are two contexts, each named hypothesis stands between them
+-- if there are two contexts, each named hypothesis stands between them
 abbrev pub is_framed : Schema → Bool
 is_framed s = not (has_two_contexts s) || each_item item_between s.items nothing_before
 
--- such a schema, applied to distinct variables, with at most two contexts, and none but them at the ends if there are two
+-- a schema that can be matched: well placed, on distinct variables, with at most two contexts, and if there are two,
+-- with all named hypotheses between them
 abbrev pub is_conclusion : Schema → Bool
 is_conclusion s = is_placed s && is_fine s && nat_le (length (context_names s)) 2 && is_framed s

@@ -12,8 +12,10 @@ use Rattle.mp_schema.specs.Instances.{Values, Wide, fits}
 use Rattle.mp_schema.specs.Limits.{few_of, few_of_item, item_depth_of, pattern_depth_of, pattern_size_of, schema_size_of}
 use Rattle.mp_schema.specs.Occurrences.{Occurrence, occurrences_in, occurrences_in_schema, first_named, holes_in, holes_in_schema}
 use Rattle.mp_schema.specs.Sequents.{Instance, wide_of, schema_fits}
+use Rattle.mp_term.specs.declared.limits.TheConstants.{MOST_DEPTH, MOST_NODES}
+use Rattle.mp_schema.specs.declared.limits.TheConstants.{MOST_ITEMS, MOST_PREMISES, MOST_CONDITIONS}
 
--- both are second-order variables or both are contexts, with the same list of contexts and as many arguments
+-- two occurrences are both of second-order variables or both of contexts, with the same list of contexts and as many arguments
 pub record IsLike (o other : Occurrence) : Type 0 where
   pub same_kind : o.is_context ≡ other.is_context
   pub same_contexts : o.ctxs ≡ other.ctxs
@@ -26,21 +28,21 @@ pub record AreAlike (os : List Occurrence) : Type 0 where
 -- the limits of a pattern
 pub record IsLimited (p : Pattern) : Type 0 where
   pub few : IsTrue (few_of p)
-  pub shallow : pattern_depth_of p ≤ 200
-  pub small : pattern_size_of p ≤ 20000
+  pub shallow : pattern_depth_of p ≤ MOST_DEPTH
+  pub small : pattern_size_of p ≤ MOST_NODES
 
 -- the limits of a schema
 pub record IsLimitedSchema (s : Schema) : Type 0 where
-  pub few_items : length s.items ≤ 200
+  pub few_items : length s.items ≤ MOST_ITEMS
   pub few : All (λ i. IsTrue (few_of_item i)) s.items
   pub few_end : IsTrue (few_of s.concl)
-  pub shallow : All (λ i. item_depth_of i ≤ 200) s.items
-  pub shallow_end : pattern_depth_of s.concl ≤ 200
-  pub small : schema_size_of s ≤ 20000
+  pub shallow : All (λ i. item_depth_of i ≤ MOST_DEPTH) s.items
+  pub shallow_end : pattern_depth_of s.concl ≤ MOST_DEPTH
+  pub small : schema_size_of s ≤ MOST_NODES
 
 -- a rule without a fault
 pub record IsFaultlessRule (premises : List Schema) (concl : Schema) : Type 0 where
-  pub few_premises : length premises ≤ 16
+  pub few_premises : length premises ≤ MOST_PREMISES
   pub limited : All IsLimitedSchema premises
   pub limited_end : IsLimitedSchema concl
   pub conclusion : IsTrue (is_conclusion concl)
@@ -51,7 +53,7 @@ pub record IsFaultlessRule (premises : List Schema) (concl : Schema) : Type 0 wh
 
 -- a rewrite without a fault
 pub record IsFaultlessRewrite (conds : List Pattern) (redex contractum : Pattern) : Type 0 where
-  pub few_conds : length conds ≤ 15
+  pub few_conds : length conds ≤ MOST_CONDITIONS
   pub limited : All IsLimited conds
   pub limited_redex : IsLimited redex
   pub limited_contractum : IsLimited contractum
@@ -90,11 +92,11 @@ abbrev pub RewritesAreFaultless : Type 0
 RewritesAreFaultless =
     (conds : List Pattern) (redex contractum : Pattern) → rewrite_fault_of conds redex contractum ≡ None → IsFaultlessRewrite conds redex contractum
 
--- the values of a schema fit where those of its occurrences do
+-- the values of a schema fit exactly if those of its occurrences do
 abbrev pub FitsByOccurrences : Type 0
 FitsByOccurrences = (v : Instance) (s : Schema) → schema_fits v s ≡ list_all (occurrence_fits v) (occurrences_in_schema s)
 
--- the values that fit the conclusion fit each premise, where those of the needs fit at their first occurrence
+-- the values that fit the conclusion fit each premise, if those of the needs fit at their first occurrence
 abbrev pub PremisesFit : Type 0
 PremisesFit =
     (v : Instance) (premises : List Schema) (concl : Schema) → rule_fault_of premises concl ≡ None → IsTrue (schema_fits v concl) →

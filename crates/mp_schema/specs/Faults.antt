@@ -13,6 +13,7 @@ use Rattle.mp_schema.specs.declared.fault.SchemaFault.TheVariants as fault
 use Rattle.mp_schema.specs.Conditions.{Before, nothing_before, past_all, each_item, below, has_all, is_apart, context_names, is_framed}
 use Rattle.mp_schema.specs.Limits.{few_of, few_of_schema, is_shallow_pattern, is_shallow_schema, is_small_pattern, is_small_schema}
 use Rattle.mp_schema.specs.Occurrences.{Occurrence, occurrences_in, occurrences_in_item, occurrences_in_schema, first_named, holes_in, holes_in_schema}
+use Rattle.mp_schema.specs.declared.limits.TheConstants.{MOST_PREMISES, MOST_CONDITIONS}
 
 -- ## What a schema keeps
 
@@ -21,7 +22,7 @@ abbrev pub item_closed : Item → Before → Bool
 item_closed (Hyp p) b = below p b.named
 item_closed (Ctx name ctxs args) b = at_scope b.named (map below args)
 
--- so is each variable of the schema
+-- each variable of the schema is a named hypothesis or a binder before it
 abbrev pub is_closed : Schema → Bool
 is_closed s = each_item item_closed s.items nothing_before && below s.concl (past_all s.items nothing_before).named
 
@@ -29,7 +30,7 @@ is_closed s = each_item item_closed s.items nothing_before && below s.concl (pas
 abbrev pub all_listed : List Sym → List Occurrence → Bool
 all_listed known os = list_all (λ (o : Occurrence). has_all known o.ctxs) os
 
--- so does each occurrence in an item, with the contexts before it
+-- each list of contexts in an item has only contexts before the item
 abbrev pub item_listed : Item → Before → Bool
 item_listed i b = all_listed b.contexts (occurrences_in_item i)
 
@@ -75,7 +76,7 @@ same_names [] (y ∷ ys) = false
 same_names (x ∷ xs) [] = false
 same_names (x ∷ xs) (y ∷ ys) = nat_eq x.0 y.0 && same_names xs ys
 
--- both are second-order variables or both are contexts, with the same list of contexts and as many arguments
+-- two occurrences are both of second-order variables or both of contexts, with the same list of contexts and as many arguments
 abbrev pub is_like : Occurrence → Occurrence → Bool
 is_like o other = same_bool o.is_context other.is_context && same_names o.ctxs other.ctxs && nat_eq (length o.levels) (length other.levels)
 
@@ -114,7 +115,7 @@ module _ (premises : List Schema) (concl : Schema) where
 
   -- at most 16 premises, and in each schema the limits on how many
   unfoldable pub rule_is_few : Bool
-  rule_is_few = nat_le (length premises) 16 && each_schema few_of_schema
+  rule_is_few = nat_le (length premises) MOST_PREMISES && each_schema few_of_schema
 
   -- no node is at a depth over 200
   unfoldable pub rule_is_shallow : Bool
@@ -140,7 +141,7 @@ module _ (premises : List Schema) (concl : Schema) where
   unfoldable pub rule_has_few_contexts : Bool
   rule_has_few_contexts = nat_le (length (context_names concl)) 2
 
-  -- where the conclusion has two contexts, each of its named hypotheses stands between them
+  -- if the conclusion has two contexts, each of its named hypotheses stands between them
   unfoldable pub rule_is_framed : Bool
   rule_is_framed = is_framed concl
 
@@ -185,7 +186,7 @@ module _ (conds : List Pattern) (redex contractum : Pattern) where
 
   -- at most 15 conditions, and in each pattern the limits on how many
   unfoldable pub rewrite_is_few : Bool
-  rewrite_is_few = nat_le (length conds) 15 && each_pattern few_of
+  rewrite_is_few = nat_le (length conds) MOST_CONDITIONS && each_pattern few_of
 
   -- no node is at a depth over 200
   unfoldable pub rewrite_is_shallow : Bool

@@ -49,7 +49,7 @@ module _ (front : Ground) (v : Values) where
   inst_step (layer.Op op params subs) env m = Op op (map (param_of v) params) (made_each subs env m)
   inst_step (layer.Meta name ctxs args) env m = sub_of (v.meta name) (map Var (front ctxs) ++ made_each args env m) m
 
-  -- the instance of a bound body: the binders are the levels behind the scope
+  -- the instance of a bound body: the binders are the levels after the scope
   abbrev pub inst_bound_step : PBound-F (Made Term) (Made Bound) → Made Bound
   inst_bound_step b env m = record { binders = b.binders; body = b.body (env ++ variables m b.binders) (m + b.binders) }
 
@@ -71,13 +71,13 @@ abbrev pub Wide : Type 0
 Wide = List Sym → ℕ
 
 module _ (wide : Wide) (v : Values) where
-  -- the values fit one layer where they fit its parts, and a second-order variable's term is in its scope
+  -- the values fit one layer if they fit its parts, and a second-order variable's term is in its scope
   abbrev pub fit_step : Pattern-F Bool Bool → Bool
   fit_step (layer.Var level) = true
   fit_step (layer.Op op params subs) = all_pass subs
   fit_step (layer.Meta name ctxs args) = in_scope_of (v.meta name) (wide ctxs + length args) && all_pass args
 
-  -- they fit a bound body where they fit its pattern
+  -- the values fit a bound body if they fit its pattern
   abbrev pub fit_bound_step : PBound-F Bool Bool → Bool
   fit_bound_step b = b.body
 
@@ -85,6 +85,6 @@ module _ (wide : Wide) (v : Values) where
   abbrev pub fits : Pattern → Bool
   fits = fold-Pattern Bool Bool fit_step fit_bound_step
 
-  -- so are those in a bound body
+  -- each value is in the scope that its uses in a bound body ask
   abbrev pub fits_bound : PBound → Bool
   fits_bound = fold-PBound Bool Bool fit_step fit_bound_step

@@ -10,36 +10,38 @@ use Rattle.mp_schema.specs.declared.schema.Item.{Item}
 use Rattle.mp_schema.specs.declared.schema.Item.TheVariants.{Ctx, Hyp}
 use Rattle.mp_schema.specs.declared.schema.Schema.{Schema}
 use Rattle.mp_schema.specs.Instances.{all_pass}
+use Rattle.mp_term.specs.declared.limits.TheConstants.{MOST_DEPTH, MOST_NODES, MOST_PARAMETERS, MOST_BINDERS}
+use Rattle.mp_schema.specs.declared.limits.TheConstants.{MOST_ITEMS, MOST_CONTEXTS, MOST_ARGUMENTS}
 
 -- ## How many
 
--- one layer is within these numbers where its own lists are, and its parts
+-- one layer is within the limits on numbers if its own lists and its parts are
 abbrev pub few_step : Pattern-F Bool Bool → Bool
 few_step (layer.Var level) = true
-few_step (layer.Op op params subs) = nat_le (length params) 16 && all_pass subs
-few_step (layer.Meta name ctxs args) = nat_le (length ctxs) 8 && nat_le (length args) 8 && all_pass args
+few_step (layer.Op op params subs) = nat_le (length params) MOST_PARAMETERS && all_pass subs
+few_step (layer.Meta name ctxs args) = nat_le (length ctxs) MOST_CONTEXTS && nat_le (length args) MOST_ARGUMENTS && all_pass args
 
 -- a body of few parts, below few binders
 abbrev pub few_bound_step : PBound-F Bool Bool → Bool
-few_bound_step b = nat_le b.binders 8 && b.body
+few_bound_step b = nat_le b.binders MOST_BINDERS && b.body
 
 -- each operator has at most 16 parameters, each subterm at most 8 binders, and each second-order variable at most 8
 -- contexts and at most 8 arguments
 abbrev pub few_of : Pattern → Bool
 few_of = fold-Pattern Bool Bool few_step few_bound_step
 
--- so has a bound body, which has at most 8 binders
+-- a bound body has at most 8 binders, and a pattern within the limits on numbers
 abbrev pub few_of_bound : PBound → Bool
 few_of_bound = fold-PBound Bool Bool few_step few_bound_step
 
--- so has an item, which may be a context
+-- an item is within the limits on numbers: its pattern, or a context's own lists and its arguments
 abbrev pub few_of_item : Item → Bool
 few_of_item (Hyp p) = few_of p
-few_of_item (Ctx name ctxs args) = nat_le (length ctxs) 8 && nat_le (length args) 8 && all_pass (map few_of args)
+few_of_item (Ctx name ctxs args) = nat_le (length ctxs) MOST_CONTEXTS && nat_le (length args) MOST_ARGUMENTS && all_pass (map few_of args)
 
--- and a schema has at most 200 items
+-- a schema has at most 200 items, each within the limits on numbers
 abbrev pub few_of_schema : Schema → Bool
-few_of_schema s = nat_le (length s.items) 200 && list_all few_of_item s.items && few_of s.concl
+few_of_schema s = nat_le (length s.items) MOST_ITEMS && list_all few_of_item s.items && few_of s.concl
 
 -- ## How deep
 
@@ -66,15 +68,15 @@ abbrev pub item_depth_of : Item → ℕ
 item_depth_of (Hyp p) = pattern_depth_of p
 item_depth_of (Ctx name ctxs args) = 1 + greatest (map pattern_depth_of args)
 
--- no deeper than 200
+-- the pattern is no deeper than 200
 abbrev pub is_shallow_pattern : Pattern → Bool
-is_shallow_pattern p = nat_le (pattern_depth_of p) 200
+is_shallow_pattern p = nat_le (pattern_depth_of p) MOST_DEPTH
 
--- so is an item
+-- the item is no deeper than 200
 abbrev pub is_shallow_item : Item → Bool
-is_shallow_item i = nat_le (item_depth_of i) 200
+is_shallow_item i = nat_le (item_depth_of i) MOST_DEPTH
 
--- so are all items of a schema and its conclusion
+-- all items of a schema and its conclusion are no deeper than 200
 abbrev pub is_shallow_schema : Schema → Bool
 is_shallow_schema s = list_all is_shallow_item s.items && is_shallow_pattern s.concl
 
@@ -103,10 +105,10 @@ item_size_of (Ctx name ctxs args) = sum (map pattern_size_of args)
 abbrev pub schema_size_of : Schema → ℕ
 schema_size_of s = sum (map item_size_of s.items) + pattern_size_of s.concl
 
--- at most 20,000 nodes
+-- the pattern has at most 20,000 nodes
 abbrev pub is_small_pattern : Pattern → Bool
-is_small_pattern p = nat_le (pattern_size_of p) 20000
+is_small_pattern p = nat_le (pattern_size_of p) MOST_NODES
 
--- so has a schema
+-- the schema has at most 20,000 nodes
 abbrev pub is_small_schema : Schema → Bool
-is_small_schema s = nat_le (schema_size_of s) 20000
+is_small_schema s = nat_le (schema_size_of s) MOST_NODES

@@ -15,14 +15,14 @@ use Rattle.mp_schema.specs.declared.schema.Schema.{Schema}
 -- ## Second-order variables and contexts
 
 -- a place where a context is an item, or where a second-order variable stands, with its list of contexts and, for each
--- argument, its level where it is a variable
+-- argument, its level if it is a variable
 pub record Occurrence : Type 0 where
   pub is_context : Bool
   pub name : Sym
   pub ctxs : List Sym
   pub levels : List (Option ℕ)
 
--- what a pattern shows: its level where it is a variable, and its occurrences in the order of the text
+-- what a pattern shows: its level if it is a variable, and its occurrences in the order of the text
 pub record Shown : Type 0 where
   pub level : Option ℕ
   pub occurrences : List Occurrence
@@ -61,13 +61,13 @@ level_of p = (shown p).level
 abbrev pub occurrences_in : Pattern → List Occurrence
 occurrences_in p = (shown p).occurrences
 
--- those of an item, after the context if it is one
+-- the occurrences of an item: the context if it is one, and then those of its patterns
 abbrev pub occurrences_in_item : Item → List Occurrence
 occurrences_in_item (Hyp p) = occurrences_in p
 occurrences_in_item (Ctx name ctxs args) =
     record { is_context = true; name = name; ctxs = ctxs; levels = map level_of args } ∷ flat_map occurrences_in args
 
--- those of all items, and then of the conclusion
+-- the occurrences in all items of a schema, and then in its conclusion
 abbrev pub occurrences_in_schema : Schema → List Occurrence
 occurrences_in_schema s = flat_map occurrences_in_item s.items ++ occurrences_in s.concl
 
@@ -96,15 +96,15 @@ holes_bound_step b = b.body
 abbrev pub holes_in : Pattern → List Sym
 holes_in = fold-Pattern (List Sym) (List Sym) holes_step holes_bound_step
 
--- those of a bound body
+-- the names of the holes of a bound body
 abbrev pub holes_in_bound : PBound → List Sym
 holes_in_bound = fold-PBound (List Sym) (List Sym) holes_step holes_bound_step
 
--- those of an item
+-- the names of the holes of an item
 abbrev pub holes_in_item : Item → List Sym
 holes_in_item (Hyp p) = holes_in p
 holes_in_item (Ctx name ctxs args) = flat_map holes_in args
 
--- those of all items, and then of the conclusion
+-- the names of the holes of all items of a schema, and then of its conclusion
 abbrev pub holes_in_schema : Schema → List Sym
 holes_in_schema s = flat_map holes_in_item s.items ++ holes_in s.concl

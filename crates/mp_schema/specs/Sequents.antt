@@ -24,7 +24,7 @@ abbrev pub joined : List (List ℕ) → List ℕ
 joined [] = []
 joined (x ∷ xs) = x ++ joined xs
 
--- the variables that a value has before its arguments, where the contexts begin at these levels: the ambient
+-- the variables that a value has before its arguments, if the contexts begin at these levels: the ambient
 -- ones, and those of each context in the list
 abbrev pub ground_at : Instance → (Sym → ℕ) → Ground
 ground_at v pos ctxs = upto 0 v.ambient ++ joined (map (λ c. upto (pos c) (length (v.kept c))) ctxs)
@@ -58,7 +58,7 @@ module _ (v : Instance) where
   hyps_of (Hyp p) l = inst_of (ground_at v l.pos) v.values p (map Var l.env) l.next ∷ []
   hyps_of (Ctx name ctxs args) l = telescope l ctxs args l.next 0 (v.kept name)
 
-  -- the place behind an item
+  -- the place after an item
   abbrev pub behind : Item → Spot → Spot
   behind (Hyp p) l = record { env = l.env ++ l.next ∷ []; pos = l.pos; next = l.next + 1 }
   behind (Ctx name ctxs args) l =
@@ -69,7 +69,7 @@ module _ (v : Instance) where
   hyps_from [] l = []
   hyps_from (i ∷ is) l = hyps_of i l ++ hyps_from is (behind i l)
 
-  -- the place behind the items
+  -- the place after the items
   abbrev pub behind_all : List Item → Spot → Spot
   behind_all [] l = l
   behind_all (i ∷ is) l = behind_all is (behind i l)

@@ -31,12 +31,12 @@ abbrev pub body_or : Option MetaVal → Term
 body_or None = Var 0
 body_or (Some x) = x.body
 
--- the hypotheses that are kept; none where there is no value
+-- the hypotheses that are kept; none if there is no value
 abbrev pub kept_or : Option CtxVal → List Term
 kept_or None = []
 kept_or (Some x) = x.hyps
 
--- the level of the first variable; 0 where there is no value
+-- the level of the first variable; 0 if there is no value
 abbrev pub first_or : Option CtxVal → ℕ
 first_or None = 0
 first_or (Some x) = x.first

@@ -5,12 +5,11 @@ use crate::contexts::Listed;
 use crate::demand::{pattern_keeps, patterns_keep};
 use crate::holes::{are_patterns_filled, is_pattern_filled};
 use crate::levels::is_pattern_closed;
-use crate::limits::{is_few_pattern, is_pattern_shallow, is_pattern_small};
+use crate::limits::MOST_CONDITIONS;
+use crate::measures::{is_few_pattern, is_pattern_shallow, is_pattern_small};
 use crate::uses::{AsInRewrite, BoundIn, OnVariables};
 use crate::{Pattern, SchemaFault};
 use mp_logic::List;
-
-const MOST_CONDITIONS: usize = 15;
 
 /// The first fault of the rewrite of the redex to the contractum under these conditions, in the order of
 /// `SchemaFault`; None where it has none. It takes no memory.
@@ -58,7 +57,7 @@ pub fn rewrite_fault(
 fn is_rewrite_few(conds: &[Pattern], redex: &Pattern, contractum: &Pattern) -> bool
     ensures { result ≡ rewrite_is_few conds.now redex.now contractum.now }
 {
-    if conds.len() > MOST_CONDITIONS {
+    if conds.len() as u64 > MOST_CONDITIONS {
         return false;
     }
     for cond in conds {

@@ -13,13 +13,12 @@ use crate::first_uses::find_first_uses;
 use crate::hole_names::find_hole_names;
 use crate::holes::{Holes, are_schemata_filled};
 use crate::levels::is_schema_closed;
-use crate::limits::{is_few, is_shallow, is_small};
+use crate::limits::MOST_PREMISES;
+use crate::measures::{is_few, is_shallow, is_small};
 use crate::uses::{AsInRule, OnVariables};
 use crate::{Schema, SchemaFault};
 use mp_logic::{List, NoMemory};
 use std::alloc::Global;
-
-const MOST_PREMISES: usize = 16;
 
 /// The first fault of the rule with these premises and this conclusion, in the order of `SchemaFault`; None where
 /// it has none. It takes no memory, and looks the first use of a name up by a walk over the rule, so its time may grow
@@ -111,7 +110,7 @@ fn late_rule_fault<D: Demand, H: Holes>(
 fn is_rule_few(premises: &[Schema], concl: &Schema) -> bool
     ensures { result ≡ rule_is_few premises.now concl.now }
 {
-    if premises.len() > MOST_PREMISES {
+    if premises.len() as u64 > MOST_PREMISES {
         return false;
     }
     for premise in premises {

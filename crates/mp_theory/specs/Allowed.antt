@@ -30,7 +30,7 @@ are_for [] (g ∷ gs) = false
 are_for (n ∷ ns) [] = false
 are_for (n ∷ ns) (g ∷ gs) = is_for n g && are_for ns gs
 
--- both tests pass, or neither
+-- the two tests are equal
 abbrev pub same_bool : Bool → Bool → Bool
 same_bool true b = b
 same_bool false true = false

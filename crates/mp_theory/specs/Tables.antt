@@ -26,7 +26,7 @@ pub record IsRule (rule : Rule) : Type 0 where
   pub faultless : IsTrue (is_faultless rule)
   pub needs : rule.needs ≡ needs_of rule.premises rule.concl
 
--- each of them is
+-- each of the rules is a rule
 abbrev pub AreRules : List Rule → Type 0
 AreRules [] = ⊤
 AreRules (rule ∷ rules) = IsRule rule × AreRules rules
@@ -44,7 +44,7 @@ refusal_by (Some fault) = Some (err.Schema fault)
 abbrev pub refusal_of : List Rule → Sym → List Schema → Schema → Option TheoryErr
 refusal_of rules name premises concl = if has_name rules name then Some err.Taken else refusal_by (rule_fault_of premises concl)
 
--- Ok, or want of memory, where nothing is refused; else the refusal
+-- Ok, or want of memory, if nothing is refused; else the refusal
 abbrev pub IsRefusal : Option TheoryErr → Result (Unit {0}) TheoryErr → Type 0
 IsRefusal refusal (Ok done) = refusal ≡ None
 IsRefusal refusal (Err err.NoMemory) = refusal ≡ None

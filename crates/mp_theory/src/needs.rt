@@ -11,8 +11,8 @@ use mp_names::NameSet;
 use mp_schema::{Item, PBound, Pattern, Schema};
 use std::alloc::Global;
 
-// No rule of a theory has so many.
-const MOST_ARGUMENTS: u64 = 4294967295;
+// `Need::arity` is a u32, so a longer list counts as the greatest. A rule of a theory has at most 8 arguments.
+const WIDEST_ARITY: u64 = 4294967295;
 
 /// The second-order variables of the premises that the conclusion doesn't have, in the order of their first uses.
 #[tactic(auto, using(crate::proofs::Gathered::needs_fresh))]
@@ -104,7 +104,7 @@ fn gather_pattern(
         Pattern::Var(_) => Ok(()),
         Pattern::Op { subs, .. } => gather_bodies(alloc, subs.as_slice(), met, held),
         Pattern::Meta { name, ctxs, args } => {
-            let arity = args.len().min(MOST_ARGUMENTS) as u32;
+            let arity = args.len().min(WIDEST_ARITY) as u32;
             join(alloc, *name, ctxs, arity, met, held)?;
             gather_arguments(alloc, args.as_slice(), met, held)
         }
