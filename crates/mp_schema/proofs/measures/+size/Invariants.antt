@@ -1,7 +1,7 @@
 use Rattle.std.proofs.Common.{◌≡◌, ◌+◌, ◌<◌, ◌^◌, drop, map, sum}
 use Rattle.mp_logic.specs.Trees.{counted}
 use Rattle.mp_schema.specs.Limits.{pattern_size_of, pattern_size_of_bound}
-use Rattle.mp_schema.proofs.limits.+size.Given as goal
+use Rattle.mp_schema.proofs.measures.+size.Given as goal
 
 abbrev pub invariant-size_of_arguments-loop-arg : goal.invariant-size_of_arguments-loop-arg
 invariant-size_of_arguments-loop-arg l =

@@ -4,7 +4,7 @@ use Rattle.std.proofs.lemmas.Iterator.Search.{all_from_yields_List}
 use Rattle.std.specs.List.{list_all}
 use borrow.Author.Tests.{tests}
 use Rattle.mp_schema.specs.Limits.{is_shallow_item, is_shallow_pattern}
-use Rattle.mp_schema.proofs.limits.is_shallow.Goals as goal
+use Rattle.mp_schema.proofs.measures.is_shallow.Goals as goal
 
 pub returns-then-all : goal.returns-then-all
 returns-then-all c =

@@ -1,7 +1,7 @@
 use Rattle.std.proofs.Common.{◌≡◌, ◌+◌, ◌<◌, ◌^◌, drop, map, sum}
 use Rattle.mp_logic.specs.Trees.{counted}
 use Rattle.mp_schema.specs.Limits.{item_size_of, schema_size_of}
-use Rattle.mp_schema.proofs.limits.is_small.Given as goal
+use Rattle.mp_schema.proofs.measures.is_small.Given as goal
 
 abbrev pub invariant-loop-item : goal.invariant-loop-item
 invariant-loop-item l =
