@@ -9,7 +9,7 @@ use std::env::Env;
 use std::io::ErrorKind;
 use std::process::ExitCode;
 
-/// The words behind the program's name. Where one of them isn't UTF-8 there are none, so that the usage is told.
+/// The words after the program's name. Where one of them isn't UTF-8 there are none, so that the usage is told.
 fn words<R: Env + AllocGlobal>(rt: &R) -> Result<Vec<Text>, NoMemory> {
     let mut words = Vec::new(rt.alloc());
     let args = match env::args(rt) {

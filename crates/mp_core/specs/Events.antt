@@ -25,7 +25,7 @@ module _ {G : Type 0} where
   Steps s Reissue new = new ≡ (reissued s).1
   Steps s NextForCaller new = new ≡ (next_for s).1
 
-  -- the calls, one after the other, do
+  -- the calls, one after the other, take the one state to the other
   abbrev pub Runs : MachineState G → List (Event G) → MachineState G → Type 0
   Runs s [] end = end ≡ s
   Runs s (e ∷ es) end = (mid : MachineState G) × Steps s e mid × Runs mid es end
@@ -39,6 +39,7 @@ module _ {G : Type 0} (evals : Work G → Outcome G → Type 0) where
   IsHonest Reissue = ⊤
   IsHonest NextForCaller = ⊤
 
+  -- each parcel that is reported has an outcome that its work gives
   abbrev pub AllHonest : List (Event G) → Type 0
   AllHonest [] = ⊤
   AllHonest (e ∷ es) = IsHonest e × AllHonest es
@@ -51,7 +52,7 @@ module _ {G : Type 0} (evals : Work G → Outcome G → Type 0) where
   abbrev pub CallsKeepShape : (Work G → Type 0) → Type 0
   CallsKeepShape is_work = (s : MachineState G) (e : Event G) (new : MachineState G) → IsHonest e → Steps s e new → HasShape is_work s → HasShape is_work new
 
-  -- and what it leaves yields no outcome that wasn't yielded before
+  -- a call makes no outcome possible that wasn't
   abbrev pub CallsYieldNoMore : (Work G → Type 0) → Type 0
   CallsYieldNoMore is_work = (s : MachineState G) (e : Event G) (new : MachineState G) → IsHonest e → Steps s e new → HasShape is_work s
       → (o : Outcome G) → Yields evals new.node o → Yields evals s.node o
@@ -60,7 +61,7 @@ module _ {G : Type 0} (evals : Work G → Outcome G → Type 0) where
   abbrev pub RunsStaySound : (Work G → Type 0) → Work G → Type 0
   RunsStaySound is_work work = (es : List (Event G)) (end : MachineState G) → AllHonest es → Runs (opening work) es end → IsSoundState is_work evals end
 
-  -- and whatever is answered is an outcome that the work gives
+  -- from the start of a work, whatever happens, an answer is an outcome that the work gives
   abbrev pub RunsAnswerTruly : Work G → Type 0
   RunsAnswerTruly work = (es : List (Event G)) (end : MachineState G) → AllHonest es → Runs (opening work) es end
       → (o : Outcome G) → answer_of end ≡ Some o → evals work o

@@ -44,7 +44,7 @@ module _ {G : Type 0} where
   claim_settled (Some o) s who = (claimed.Finished, s)
   claim_settled None s who = claim_todo (first_todo s.node) s who
 
-  -- `claim(who)`: Finished where the root is done, else Nothing where no job is to do, else Spent where no
+  -- `claim(who)`: Finished if the root is done, else Nothing if no job is to do, else Spent if no
   -- epoch is left, else the leftmost job that is to do under the next epoch
   abbrev pub claimed_by : MachineState G → ℕ → Claimed G × MachineState G
   claimed_by s who = claim_settled (done_of (settle s).node) (settle s) who
@@ -59,7 +59,7 @@ module _ {G : Type 0} where
   reissue_settled (Some o) s = (claimed.Finished, s)
   reissue_settled None s = reissue_oldest (oldest_claim s.node) s
 
-  -- `reissue`: Finished where the root is done, else Nothing where no job is claimed, else Spent where no epoch
+  -- `reissue`: Finished if the root is done, else Nothing if no job is claimed, else Spent if no epoch
   -- is left, else the claim with the least epoch becomes worker 0's under the next epoch
   abbrev pub reissued : MachineState G → Claimed G × MachineState G
   reissued s = reissue_settled (done_of (settle s).node) (settle s)
@@ -71,7 +71,7 @@ module _ {G : Type 0} where
   or_reissued (claimed.Finished, s) = (claimed.Finished, s)
   or_reissued (claimed.Spent, s) = (claimed.Spent, s)
 
-  -- `next_for_caller`: a claim of worker 0, and where that is Nothing a reissue
+  -- `next_for_caller`: a claim of worker 0, and a reissue if that is Nothing
   abbrev pub next_for : MachineState G → Claimed G × MachineState G
   next_for s = or_reissued (claimed_by s 0)
 
@@ -88,7 +88,7 @@ module _ {G : Type 0} where
   abbrev pub IsStale : MachineState G → Parcel G → MachineState G → Type 0
   IsStale s p new = ((IsDue s p → ⊥) × (new ≡ s)) ⊎ (IsDue s p × (IsDue (settle s) p → ⊥) × (new ≡ settle s))
 
-  -- `report(p)`: Taken exactly where the parcel is due, and still is once what was left over is settled: it is placed
+  -- `report(p)`: Taken exactly if the parcel is due, and still is once what was left over is settled: it is placed
   -- then, and the state is settled; else it is Stale, and comes back. With one job no memory is taken.
   abbrev pub Reports : MachineState G → Parcel G → Reported G → MachineState G → Type 0
   Reports s p reported.Taken new = IsDue s p × IsDue (settle s) p × (new ≡ settle (placed (settle s) p))
@@ -100,6 +100,6 @@ module _ {G : Type 0} where
   abbrev pub lost_by : MachineState G → ℕ → ℕ × MachineState G
   lost_by s who = (claims_of who s.node, record s { node = give_back who s.node })
 
-  -- `answer`: the root's outcome, where the root is done
+  -- `answer`: the root's outcome, if the root is done
   abbrev pub answer_of : MachineState G → Option (Outcome G)
   answer_of s = done_of s.node

@@ -19,7 +19,7 @@ EachWork is_work (node.Todo work) = is_work work
 EachWork is_work (node.Claimed epoch who work) = is_work work
 EachWork is_work (node.Done o) = ⊤
 
--- what a node can still become, where evals says what a work gives
+-- what a node can still become, by what a work gives
 abbrev pub Yields : {G : Type 0} → (Work G → Outcome G → Type 0) → Node G → Outcome G → Type 0
 Yields evals (node.Todo work) o = evals work o
 Yields evals (node.Claimed epoch who work) o = evals work o

@@ -14,8 +14,8 @@ module _ {G : Type 0} (eval : Work G → Outcome G) where
   abbrev pub evaluated : Ticket G → Parcel G
   evaluated t = record { epoch = t.epoch; work = t.work; outcome = eval t.work }
 
-  -- from this state the rounds end with this outcome. A round is one ticket for the caller and one report; where the
-  -- epochs are spent the root work is evaluated
+  -- from this state the rounds end with this outcome. A round is one ticket for the caller and one report; if the
+  -- epochs are spent, the root work is evaluated
   pub data Rounds : MachineState G → Outcome G → Type 0 where
     finished : (s : MachineState G) (o : Outcome G) → (next_for s).0 ≡ claimed.Finished → answer_of (next_for s).1 ≡ Some o → Rounds s o
     spent : (s : MachineState G) → (next_for s).0 ≡ claimed.Spent → Rounds s (eval s.work)

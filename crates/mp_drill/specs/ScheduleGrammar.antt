@@ -21,6 +21,7 @@ has_worker keyword.Die = true
 has_worker keyword.Lose = true
 has_worker other = false
 
+-- the word of the event that has no worker
 abbrev pub is_reissue : Keyword → Bool
 is_reissue keyword.Reissue = true
 is_reissue other = false
@@ -34,10 +35,11 @@ abbrev pub begins_event : List Word → Bool
 begins_event (word.Small name (Some k) ∷ rest) = is_event_word k
 begins_event other = false
 
--- a worker, and units where a second number stands
+-- a worker, and units if a second number stands there
 abbrev pub IsSend : RawNumber × Option RawNumber → List Word → List Word → Type 0
 IsSend = Both IsNumberAt (IfThere IsNumberAt)
 
+-- the word of an event, and its numbers
 abbrev pub IsEvent : RawEvent → List Word → List Word → Type 0
 IsEvent (event.Claim who) ts rest = After (IsWord keyword.Claim) IsNumberAt who ts rest
 IsEvent (event.Send who units) ts rest = After (IsWord keyword.Send) IsSend (who, units) ts rest
@@ -50,7 +52,7 @@ IsEvent event.Reissue ts rest = IsWord keyword.Reissue ts rest
 abbrev pub IsWorkerWord : List Word → List Word → Type 0
 IsWorkerWord ts rest = (k : Keyword) × IsWord k ts rest × (has_worker k ≡ true)
 
--- no word begins an event; or it begins one, and the worker's number isn't behind it
+-- where an event is stuck: no word begins one; or it begins one, and the worker's number doesn't follow
 abbrev pub StuckEvent : List Word → List Word → Type 0
 StuckEvent ts rest = ((begins_event ts ≡ false) × (rest ≡ ts)) ⊎ StuckOptional IsWorkerWord (Lacks IsNumberAt) ts rest
 
@@ -58,12 +60,14 @@ StuckEvent ts rest = ((begins_event ts ≡ false) × (rest ≡ ts)) ⊎ StuckOpt
 abbrev pub IsSection : RawSection → List Word → List Word → Type 0
 IsSection s = Both (IsNameBehind keyword.Goal) (Repeated IsEvent begins_event) (s.goal, s.events)
 
+-- where a section is stuck: at its keyword, at its name, or in an event
 abbrev pub StuckSection : List Word → List Word → Type 0
 StuckSection = StuckBoth (IsNameBehind keyword.Goal) (StuckNameBehind keyword.Goal) (StuckRepeated IsEvent begins_event StuckEvent)
 
--- the sections, and nothing behind them
+-- the sections, and no word after them
 abbrev pub IsSchedule : List RawSection → List Word → List Word → Type 0
 IsSchedule = Many IsSection
 
+-- where a schedule is stuck
 abbrev pub StuckSchedule : List Word → List Word → Type 0
 StuckSchedule = StuckMany IsSection StuckSection

@@ -15,11 +15,12 @@ use Rattle.mp_drill.specs.ScheduleValues.{schedule_of}
 abbrev pub IsScheduleText : List Sym → List (List ℕ) → List ℕ → List Section → Type 0
 IsScheduleText goals = IsText IsSchedule StuckSchedule (schedule_faults goals) schedule_of
 
--- this is the one fault of the text: the first lexical one; else Syntax at the word where the grammar is stuck; else the
+-- this is the one fault of the text: the first lexical one; else Syntax at the word at which the grammar is stuck; else the
 -- least static one
 abbrev pub IsScheduleFault : List Sym → List (List ℕ) → List ℕ → TextErr → Type 0
 IsScheduleFault goals = IsFaulty IsSchedule StuckSchedule (schedule_faults goals) schedule_of
 
+-- what the reader of schedules answers of a text for these goals, and the names that are known then
 abbrev pub ReadsSchedule : List Sym → List (List ℕ) → List ℕ → Result (List Section) TextFail → List (List ℕ) → Type 0
 ReadsSchedule goals = ReadsText IsSchedule StuckSchedule (schedule_faults goals) schedule_of
 

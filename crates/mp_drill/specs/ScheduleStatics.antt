@@ -1,5 +1,6 @@
 -- The static rules of schedules as they are written.
 use Rattle.std.specs.Prelude.{◌++◌, List, [], ◌∷◌, Option, not}
+use Rattle.mp_drill.specs.declared.limits.TheConstants.{LAST_WORKER, MOST_UNITS}
 use Rattle.std.specs.List.{flat_map}
 use Rattle.mp_logic.specs.declared.sym.Sym.{Sym}
 use Rattle.mp_names.specs.Sets.{is_among}
@@ -13,27 +14,28 @@ use Rattle.mp_drill.specs.declared.raw.RawEvent.{RawEvent}
 use Rattle.mp_drill.specs.declared.raw.RawEvent.TheVariants as event
 use Rattle.mp_drill.specs.declared.raw.RawSection.{RawSection}
 
--- the units of a send, where they are written
+-- the fault of the units of a send, if they are written and out of range
 abbrev pub units_faults : Option RawNumber → List Fault
-units_faults = written_number_faults 1 1000000
+units_faults = written_number_faults 1 MOST_UNITS
 
--- workers are 0 to 64, and those that die or are lost 1 to 64; units are 1 to 1,000,000
+-- the faults of an event's numbers: workers are 0 to 64, and those that die or are lost 1 to 64; units are 1 to 1,000,000
 abbrev pub event_faults : RawEvent → List Fault
-event_faults (event.Claim who) = number_faults 0 64 who
-event_faults (event.Send who units) = number_faults 0 64 who ++ units_faults units
-event_faults (event.Again who) = number_faults 0 64 who
-event_faults (event.Die who) = number_faults 1 64 who
-event_faults (event.Lose who) = number_faults 1 64 who
+event_faults (event.Claim who) = number_faults 0 LAST_WORKER who
+event_faults (event.Send who units) = number_faults 0 LAST_WORKER who ++ units_faults units
+event_faults (event.Again who) = number_faults 0 LAST_WORKER who
+event_faults (event.Die who) = number_faults 1 LAST_WORKER who
+event_faults (event.Lose who) = number_faults 1 LAST_WORKER who
 event_faults event.Reissue = []
 
+-- the faults of the numbers of events
 abbrev pub events_faults : List RawEvent → List Fault
 events_faults = flat_map event_faults
 
--- a section behind sections of these names has another one, which is a goal's
+-- the faults of a section's name, after sections of these names: it is taken, or no goal's
 abbrev pub name_faults : List Sym → List Sym → RawName → List Fault
 name_faults goals taken n = fault_if (is_among taken n.name) n.left why.Taken ++ fault_if (not (is_among goals n.name)) n.left why.UnknownName
 
--- the faults of sections behind sections of these names
+-- the faults of sections, after sections of these names
 abbrev pub sections_faults : List Sym → List Sym → List RawSection → List Fault
 sections_faults goals taken [] = []
 sections_faults goals taken (s ∷ ss) = name_faults goals taken s.goal ++ events_faults s.events ++ sections_faults goals (taken ++ s.goal.name ∷ []) ss

@@ -1,5 +1,6 @@
 -- What events and sections stand for that are written.
 use Rattle.std.specs.Prelude.{ℕ, nat_abs, List, [], ◌∷◌, map, Option, None, Some, IsTrue, ⊤}
+use Rattle.mp_drill.specs.declared.limits.TheConstants.{UNITS}
 use Rattle.mp_words.specs.declared.raw.RawNumber.{RawNumber}
 use Rattle.mp_drill.specs.declared.schedule.Event.{Event}
 use Rattle.mp_drill.specs.declared.schedule.Event.TheVariants as drill
@@ -9,9 +10,9 @@ use Rattle.mp_drill.specs.declared.raw.RawEvent.TheVariants as event
 use Rattle.mp_drill.specs.declared.raw.RawSection.{RawSection}
 use Rattle.mp_drill.specs.Ranges.{are_in_range}
 
--- a send without units has 256
+-- the units of a send: those that are written, or 256
 abbrev pub units_of : Option RawNumber → ℕ
-units_of None = 256
+units_of None = UNITS
 units_of (Some units) = nat_abs units.value
 
 -- the event that is written

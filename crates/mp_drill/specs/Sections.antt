@@ -4,7 +4,7 @@ use Rattle.mp_logic.specs.declared.sym.Sym.{Sym}
 use Rattle.mp_drill.specs.declared.schedule.Event.{Event}
 use Rattle.mp_drill.specs.declared.schedule.Section.{Section}
 
--- the events of the goal's section, which is the first one of its name; none where it has none
+-- the events of the goal's section, which is the first one of its name; none if it has none
 abbrev pub events_of : List Section → Sym → List Event
 events_of [] name = []
 events_of (s ∷ ss) name = if nat_eq s.goal.0 name.0 then s.events else events_of ss name

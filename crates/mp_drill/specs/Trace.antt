@@ -26,7 +26,7 @@ module _ {G : Type 0} where
   claim_reply claimed.Finished = reply.Finished
   claim_reply claimed.Spent = reply.Spent
 
-  -- a ticket replaces the worker's hand; where there is none the hand stays
+  -- a ticket replaces the worker's hand; if there is none, the hand stays
   abbrev pub hand_over : Claimed G → ℕ → List (Worker G) → List (Worker G)
   hand_over (claimed.Ticket t) who workers = with_hand workers who (Some t)
   hand_over claimed.Nothing who workers = workers

@@ -1,5 +1,6 @@
 -- What the workers hold beside the core.
 use Rattle.std.specs.Prelude.{ℕ, List, None, slice_index_or, slice_set, replicate}
+use Rattle.mp_drill.specs.declared.limits.TheConstants.{WORKERS}
 use Rattle.std.specs.declared.option.Option.{Option}
 use Rattle.mp_strategy.specs.declared.work.Work.{Work}
 use Rattle.mp_core.specs.declared.state.MachineState.{MachineState}
@@ -25,9 +26,10 @@ module _ {G : Type 0} where
   abbrev pub with_hand : List (Worker G) → ℕ → Option (Ticket G) → List (Worker G)
   with_hand workers who hand = slice_set workers who (record { hand = hand; last = (worker_at workers who).last })
 
+  -- the world of this machine and these workers
   abbrev pub world : MachineState G → List (Worker G) → World G
   world machine workers = record { machine = machine; workers = workers }
 
   -- the root work is to do, and workers 0 to 64 hold nothing
   abbrev pub first_world : Work G → World G
-  first_world work = record { machine = opening work; workers = replicate 65 idle }
+  first_world work = record { machine = opening work; workers = replicate WORKERS idle }

@@ -1,4 +1,5 @@
 ghost use Rattle.std.specs.Prelude.{◌≡◌, ◌<◌, ℕ, IfOk, IsTrue, length, slice_set, Some, None};
+ghost use Rattle.mp_drill.specs.declared.limits.TheConstants.{WORKERS};
 ghost use Rattle.mp_strategy.specs.Evaluation.{eval};
 ghost use Rattle.mp_strategy.specs.Laws.{IsSound};
 ghost use Rattle.mp_strategy.specs.Strategies.{Evals};
@@ -47,7 +48,7 @@ impl<'p, L: Logic> Session<'p, L> {
     /// The worker claims a job.
     fn claim(&mut self, alloc: Global, who: u32) -> Result<Reply, NoMemory>
         requires ready { IsReady L.good L.step_of self.old.core self.old.workers.items }
-        requires who { who < 65 }
+        requires who { who < WORKERS }
         ensures ready { IfOk result (λ _. IsReady L.good L.step_of self.new.core self.new.workers.items) }
         ensures same { IfOk result (λ _. self.new.core ≡ moved self.old.core self.new.core.machine) }
         ensures reply { IfOk result (λ r. Happens (eval (L.step_of self.old.core.logic) self.old.core.justs self.old.core.tacs) (world self.old.core.machine self.old.workers.items) (Event.Claim who) r (world self.new.core.machine self.new.workers.items)) }
@@ -70,7 +71,7 @@ impl<'p, L: Logic> Session<'p, L> {
     /// The worker reports what its ticket's work evaluates to.
     fn send(&mut self, alloc: Global, who: u32) -> Result<Reply, NoMemory>
         requires ready { IsReady L.good L.step_of self.old.core self.old.workers.items }
-        requires who { who < 65 }
+        requires who { who < WORKERS }
         ensures ready { IfOk result (λ _. IsReady L.good L.step_of self.new.core self.new.workers.items) }
         ensures same { IfOk result (λ _. self.new.core ≡ moved self.old.core self.new.core.machine) }
         ensures reply { IfOk result (λ r. Happens (eval (L.step_of self.old.core.logic) self.old.core.justs self.old.core.tacs) (world self.old.core.machine self.old.workers.items) (Event.Send who 1) r (world self.new.core.machine self.new.workers.items)) }
@@ -91,7 +92,7 @@ impl<'p, L: Logic> Session<'p, L> {
     /// The worker reports its last parcel once more.
     fn again(&mut self, alloc: Global, who: u32) -> Result<Reply, NoMemory>
         requires ready { IsReady L.good L.step_of self.old.core self.old.workers.items }
-        requires who { who < 65 }
+        requires who { who < WORKERS }
         ensures ready { IfOk result (λ _. IsReady L.good L.step_of self.new.core self.new.workers.items) }
         ensures same { IfOk result (λ _. self.new.core ≡ moved self.old.core self.new.core.machine) }
         ensures reply { IfOk result (λ r. Happens (eval (L.step_of self.old.core.logic) self.old.core.justs self.old.core.tacs) (world self.old.core.machine self.old.workers.items) (Event.Again who) r (world self.new.core.machine self.new.workers.items)) }
@@ -106,7 +107,7 @@ impl<'p, L: Logic> Session<'p, L> {
     /// The worker drops what it holds.
     fn die(&mut self, who: u32) -> Reply
         requires ready { IsReady L.good L.step_of self.old.core self.old.workers.items }
-        requires who { who < 65 }
+        requires who { who < WORKERS }
         ensures ready { IsReady L.good L.step_of self.new.core self.new.workers.items }
         ensures same { self.new.core ≡ moved self.old.core self.new.core.machine }
         ensures reply { Happens (eval (L.step_of self.old.core.logic) self.old.core.justs self.old.core.tacs) (world self.old.core.machine self.old.workers.items) (Event.Die who) result (world self.new.core.machine self.new.workers.items) }

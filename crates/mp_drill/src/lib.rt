@@ -3,7 +3,7 @@
 
 mod drilling;
 mod laws;
-mod ranges;
+mod limits;
 mod raw;
 mod reading;
 mod rounds;
@@ -16,7 +16,7 @@ mod workers;
 
 pub use drilling::drill;
 pub use laws::{one_schedule_reading, one_schedule_text, one_trace, some_trace};
-pub use ranges::in_range;
+pub use limits::{LAST_WORKER, MOST_UNITS, UNITS, WORKERS};
 pub use raw::{RawEvent, RawSection};
 pub use reading::read_schedule;
 pub use schedule::{Event, Reply, Section};

@@ -4,19 +4,14 @@ ghost use Rattle.mp_names.specs.Sets.{Met, with_met};
 ghost use Rattle.mp_words.specs.Faults.{least, least_from};
 ghost use Rattle.mp_drill.specs.ScheduleStatics.{event_faults, events_faults, name_faults, schedule_faults};
 
+use crate::limits::{LAST_WORKER, MOST_UNITS};
 use crate::raw::{RawEvent, RawSection};
 use mp_logic::{List, NoMemory, Sym};
 use mp_names::NameSet;
 use mp_words::{Fault, RawName, TextWhy, check_number, check_written_number, sooner_of};
 use std::alloc::Global;
 
-/// The greatest worker.
-const LAST_WORKER: u32 = 64;
-
-/// The most units of a send.
-const MOST_UNITS: u32 = 1_000_000;
-
-/// The soonest of the fault that is held and those of an event.
+/// The earliest of the fault that is held and those of an event.
 #[tactic(auto, using(mp_words::proofs::Soonest::least_from_append))]
 fn check_event(held: Option<Fault>, raw: &RawEvent) -> Option<Fault>
     ensures { result ≡ least_from held (event_faults raw.now) }
@@ -34,7 +29,7 @@ fn check_event(held: Option<Fault>, raw: &RawEvent) -> Option<Fault>
     }
 }
 
-/// The soonest of the fault that is held and those of events.
+/// The earliest of the fault that is held and those of events.
 fn check_events(held: Option<Fault>, raws: &[RawEvent]) -> Option<Fault>
     ensures { result ≡ least_from held (events_faults raws.now) }
 {
@@ -45,7 +40,7 @@ fn check_events(held: Option<Fault>, raws: &[RawEvent]) -> Option<Fault>
     held
 }
 
-/// The soonest of the fault that is held and those of a section's name. The names that are known are the goals and the
+/// The earliest of the fault that is held and those of a section's name. The names that are known are the goals and the
 /// names of earlier sections, which alone are taken.
 // A name that is known and isn't taken is a goal's.
 fn check_name(

@@ -1,22 +1,21 @@
 ghost use Rattle.std.specs.Prelude.{◌≡◌, [], true, map, nat_abs, IfOk, IsTrue};
+ghost use Rattle.mp_drill.specs.declared.limits.TheConstants.{MOST_UNITS};
 ghost use Rattle.std.specs.List.{flat_map};
 ghost use Rattle.mp_drill.specs.Ranges.{is_in_range, are_in_range};
 ghost use Rattle.mp_words.specs.Ranges.{is_between};
 ghost use Rattle.mp_drill.specs.ScheduleStatics.{units_faults, event_faults, events_faults};
 ghost use Rattle.mp_drill.specs.ScheduleValues.{units_of, event_of, schedule_of, EachInRange};
 
+use crate::limits::UNITS;
 use crate::raw::{RawEvent, RawSection};
 use crate::schedule::{Event, Section};
 use mp_logic::{List, NoMemory};
 use mp_words::RawNumber;
 use std::alloc::Global;
 
-/// The units of a send that doesn't say them.
-const UNITS: u32 = 256;
-
 /// The number that is written, where it is 0 to 1,000,000.
 fn natural(raw: RawNumber) -> u32
-    requires { is_between 0 1000000 raw.value ≡ true }
+    requires { is_between 0 MOST_UNITS raw.value ≡ true }
     ensures { result ≡ nat_abs raw.value }
 {
     raw.value as u32

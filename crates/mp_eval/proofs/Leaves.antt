@@ -1,12 +1,11 @@
 -- A strategy on the leaves of a tree, level by level.
-use Rattle.std.proofs.Common.{◌≡◌, ℕ, ◌-◌, List, [], ◌∷◌, ◌++◌, Ok, Err, refl, ap, sym, subst, ◌∙◌, append_assoc, append-nil}
+use Rattle.std.proofs.Common.{◌≡◌, ℕ, ◌-◌, List, [], ◌∷◌, ◌++◌, Ok, Err, refl, ap, sym, subst, ◌∙◌, append_assoc}
 use Rattle.std.specs.List.{AllByRecursion, flat_map}
 use Rattle.mp_logic.specs.declared.tree.Tree.{Tree, Leaf, Step}
 use Rattle.mp_logic.specs.declared.tree.JustId.{JustId}
 use Rattle.mp_logic.specs.Trees.{leaves_of, graft_of, graft_from}
 use Rattle.mp_logic.proofs.TreeInduction.{tree_ind}
 use Rattle.mp_logic.proofs.TreeSteps.{leaves-Leaf, leaves-Step, graft-Step, graft_all}
-use Rattle.mp_strategy.specs.declared.outcome.Failure.{Failure}
 use Rattle.mp_strategy.specs.declared.outcome.Outcome.{Outcome}
 use Rattle.mp_strategy.specs.declared.outcome.Outcome.TheVariants as outcome
 use Rattle.mp_strategy.specs.Evaluation.{Evaluator, Trees, with_first, all_of, grafted, on_leaves}
@@ -124,33 +123,3 @@ module _ {G : Type 0} (each : Evaluator G) where
       ap (λ leaves. grafted (Step g just kids) (all_of each leaves)) (leaves-Step g just kids f)
       ∙ step_grafted g just kids (all_of each (flat_map (λ kid. leaves_of kid (f - 1)) kids))
       ∙ ap (with_kids g just) (kids_done (f - 1) kids)
-
-  alone : (g : G) (o : Outcome G) → grafted (Leaf g) (with_first o (Ok [])) ≡ o
-  alone g (outcome.Failure e) = refl
-  alone g (outcome.Tree t) = ap (λ (p : Tree G × List (Tree G)). outcome.Tree p.0) (graft-Leaf g (t ∷ []))
-
-  -- on a leaf alone
-  pub on_leaf : (g : G) (f : ℕ) → on_leaves each (Leaf g) f ≡ each f g
-  on_leaf g f = ap (λ leaves. grafted (Leaf g) (all_of each leaves)) (leaves-Leaf g f) ∙ alone g (each f g)
-
-tree_followed : {G : Type 0} (done : List (Tree G)) (t : Tree G) (r : Trees G) → followed (Ok done) (with_first (outcome.Tree t) r) ≡ followed (Ok (done ++ t ∷ [])) r
-tree_followed done t (Ok ts) = ap Ok (sym (append_assoc done (t ∷ []) ts))
-tree_followed done t (Err e) = refl
-
--- one more kid is done
-pub kids_next : {G : Type 0} (each : Evaluator G) (f : ℕ) (done rest rest' : List (Tree G)) (k t : Tree G) (all : Trees G) → rest ≡ k ∷ rest' → outcome.Tree t ≡ on_leaves each k f
-    → followed (Ok done) (on_kids each f rest) ≡ all → followed (Ok (done ++ t ∷ [])) (on_kids each f rest') ≡ all
-kids_next {G} each f done rest rest' k t all is gives h =
-    sym (tree_followed done t (on_kids each f rest')) ∙ ap (λ o. followed (Ok done) (with_first o (on_kids each f rest'))) gives
-    ∙ sym (ap (λ ks. followed (Ok done) (on_kids each f ks)) is) ∙ h
-
--- a kid has a leaf that fails
-pub kids_fail : {G : Type 0} (each : Evaluator G) (f : ℕ) (done rest rest' : List (Tree G)) (k : Tree G) (e : Failure G) (all : Trees G) → rest ≡ k ∷ rest' → outcome.Failure e ≡ on_leaves each k f
-    → followed (Ok done) (on_kids each f rest) ≡ all → Err e ≡ all
-kids_fail each f done rest rest' k e all is gives h =
-    ap (λ o. followed (Ok done) (with_first o (on_kids each f rest'))) gives ∙ sym (ap (λ ks. followed (Ok done) (on_kids each f ks)) is) ∙ h
-
--- no kid is left
-pub kids_end : {G : Type 0} (each : Evaluator G) (f : ℕ) (done rest : List (Tree G)) (all : Trees G) → rest ≡ [] → followed (Ok done) (on_kids each f rest) ≡ all → Ok done ≡ all
-kids_end each f done rest all is h =
-    ap Ok (sym (append-nil done)) ∙ sym (ap (λ ks. followed (Ok done) (on_kids each f ks)) is) ∙ h

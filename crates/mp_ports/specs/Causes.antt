@@ -16,14 +16,14 @@ Rose before now = raised before ≤ now
 abbrev pub Quiet : ℕ → ℕ → Type 0
 Quiet before now = now < raised before
 
--- A fault was counted at Failed and nowhere else, and a file that is too long was counted at TooLong. No count fell.
+-- the cause of a read's answer: a fault was counted at Failed and at no other answer, a long file at TooLong, and no count fell
 abbrev pub ReadCause : {T : Type 0} → (faults_before faults_now longs_before longs_now : ℕ) → Result T ReadErr → Type 0
 ReadCause faults now longs later (Ok text) = (now ≡ faults) × (longs ≤ later)
 ReadCause faults now longs later (Err Failed) = Rose faults now × (faults ≤ now) × (longs ≤ later)
 ReadCause faults now longs later (Err TooLong) = (now ≡ faults) × Rose longs later × (longs ≤ later)
 ReadCause faults now longs later (Err NoMemory) = (now ≡ faults) × (longs ≤ later)
 
--- A fault was counted where the put failed and nowhere else. The count did not fall.
+-- the cause of a put's answer: a fault was counted if it failed, and else none; the count did not fall
 abbrev pub PutCause : {T : Type 0} → (faults_before faults_now : ℕ) → Result T PutFailed → Type 0
 PutCause faults now (Ok done) = now ≡ faults
 PutCause faults now (Err failed) = Rose faults now × (faults ≤ now)

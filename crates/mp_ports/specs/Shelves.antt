@@ -7,7 +7,8 @@ use Rattle.mp_ports.specs.Causes.{raised}
 use Rattle.mp_ports.specs.declared.ports.ReadErr.{ReadErr}
 use Rattle.mp_ports.specs.declared.ports.ReadErr.TheVariants.{Failed, TooLong, NoMemory}
 
--- Where the bytes of a file are told, TooLong comes, among the answers that are not Failed, exactly where there are more than the limit.
+-- what a read of a file answers if its bytes are told: the bytes if they are at most the limit, TooLong if there are more; Failed at any
+-- time, and want of memory only of a file within the limit
 abbrev pub Told : Option (List ℕ) → ℕ → Result (List ℕ) ReadErr → Type 0
 Told None limit answer = ⊤
 Told (Some bytes) limit (Ok text) = (text ≡ bytes) × (length bytes ≤ limit)
@@ -56,7 +57,7 @@ too_long s = record s { calls = raised s.calls; longs = raised s.longs }
 abbrev pub fails_next : ShelfState → Bool
 fails_next s = list_any (λ call. call == raised s.calls) s.fails
 
--- a file that is not there fails, and another gives its bytes exactly where they are at most the limit
+-- a read of the file that is found, or of none: a missing file fails, and another one gives its bytes if they are at most the limit
 abbrev pub FileRead : ShelfState → ShelfState → Option (List ℕ) → ℕ → Result (List ℕ) ReadErr → Type 0
 FileRead old new None limit (Err Failed) = new ≡ failed old
 FileRead old new (Some bytes) limit (Ok text) = (new ≡ called old) × (text ≡ bytes) × (length bytes ≤ limit)
@@ -64,11 +65,12 @@ FileRead old new (Some bytes) limit (Err TooLong) = (new ≡ too_long old) × (l
 FileRead old new (Some bytes) limit (Err NoMemory) = (new ≡ called old) × (length bytes ≤ limit)
 FileRead old new file limit answer = ⊥
 
+-- a read by whether its call is listed: a listed call fails, and another reads the first file of the name
 abbrev pub ReadBy : Bool → ShelfState → ShelfState → List ℕ → ℕ → Result (List ℕ) ReadErr → Type 0
 ReadBy true old new name limit (Err Failed) = new ≡ failed old
 ReadBy true old new name limit answer = ⊥
 ReadBy false old new name limit answer = FileRead old new (file_of name old.files) limit answer
 
--- a call that is listed fails, and another reads the first file of the name
+-- a read of the shelf in memory: a call that is listed fails, and another reads the first file of the name
 abbrev pub ShelfRead : ShelfState → ShelfState → List ℕ → ℕ → Result (List ℕ) ReadErr → Type 0
 ShelfRead old new name limit answer = ReadBy (fails_next old) old new name limit answer

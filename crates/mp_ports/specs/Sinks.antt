@@ -9,7 +9,7 @@ use Rattle.mp_ports.specs.declared.ports.PutFailed.{PutFailed}
 abbrev pub TakesPrefix : Option (List ℕ) → Option (List ℕ) → List ℕ → Type 0
 TakesPrefix old new bytes = (count : ℕ) × Appends old new (take count bytes)
 
--- all bytes were taken, or, where the put failed, the first of them
+-- what a put takes: all bytes, or the first of them if it fails
 abbrev pub PutTakes : {T : Type 0} → Option (List ℕ) → Option (List ℕ) → List ℕ → Result T PutFailed → Type 0
 PutTakes old new bytes (Ok done) = Appends old new bytes
 PutTakes old new bytes (Err failed) = TakesPrefix old new bytes
@@ -32,7 +32,7 @@ abbrev pub listed : ℕ → List (ℕ × ℕ) → Option ℕ
 listed call [] = None
 listed call (entry ∷ entries) = if entry.0 == call then Some entry.1 else listed call entries
 
--- the bytes that a call is to take: all, or the first so many where it is listed
+-- the bytes that a call is to take: all, or the first so many if it is listed
 abbrev pub due : Option ℕ → List ℕ → List ℕ
 due None bytes = bytes
 due (Some count) bytes = take count bytes
@@ -49,13 +49,15 @@ took s bytes = record s { calls = raised s.calls; taken = s.taken ++ bytes }
 abbrev pub failed : SinkState → List ℕ → SinkState
 failed s bytes = record s { calls = raised s.calls; faults = raised s.faults; taken = s.taken ++ bytes }
 
+-- a put by whether the bytes due fit and by the entry of its call: see the put of the sink in memory
 abbrev pub PutBy : {T : Type 0} → Bool → Option ℕ → SinkState → SinkState → List ℕ → Result T PutFailed → Type 0
 PutBy false entry old new bytes (Err _) = new ≡ failed old []
 PutBy true (Some count) old new bytes (Err _) = new ≡ failed old (take count bytes)
 PutBy true None old new bytes (Ok _) = new ≡ took old bytes
 PutBy fit entry old new bytes answer = ⊥
 
--- Where the bytes due do not fit nothing is taken and the call fails; a listed call takes the bytes due and fails; another takes all bytes.
+-- a put of the sink in memory: if the bytes due do not fit, nothing is taken and the call fails; a listed call takes the bytes due and
+-- fails; another takes all bytes
 abbrev pub SinkPut : {T : Type 0} → SinkState → SinkState → List ℕ → Result T PutFailed → Type 0
 SinkPut old new bytes answer =
     let entry = listed (raised old.calls) old.fails in

@@ -28,7 +28,7 @@ Says kind reads bytes (Err line) =
     ((limit_of < length bytes) × (line ≡ long_line kind))
     ⊎ ((length bytes ≤ limit_of) × ((e : TextErr) × (names : Names) × reads bytes (Err (Bad e)) names × (line ≡ refusal_text kind e)))
 
--- a file that is refused is the answer; else the rest of the files is asked. Nothing is known where its bytes aren't told.
+-- a file that is refused is the answer; else the rest of the files is asked. Nothing is known if its bytes aren't told.
 abbrev pub FileThen : {V : Type 0} → FileKind → Option (List ℕ) → Reading V → (V → Names → Answer → Type 0) → Answer → Type 0
 FileThen kind None reads next answer = ⊤
 FileThen {V} kind (Some bytes) reads next answer =

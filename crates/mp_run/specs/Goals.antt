@@ -48,14 +48,14 @@ goal_text names rules entry = result_text names rules entry.name entry.justs (go
 abbrev pub GoalsInRange : List Section → Type 0
 GoalsInRange sections = (name : Sym) → IsTrue (are_in_range (events_of sections name))
 
--- a goal's block where these events are drilled: the text of its outcome, behind the text of the replies to them
+-- a goal's block if these events are drilled: the text of the replies to them, and then the text of its outcome
 abbrev pub IsDrilled : Names → List Rule → List Event → Entry → Block → Type 0
 IsDrilled names rules events entry b =
     (replies : List Reply)
     × IsTrace (evaluate_in rules entry) (goal_work entry) events replies (goal_outcome rules entry)
     × (b ≡ record { text = trace_text names entry.name events replies ++ goal_text names rules entry; closed = is_closed (goal_outcome rules entry) })
 
--- a goal's block: the text of its outcome; where a schedule is drilled, behind the text of the replies to its events
+-- a goal's block: the text of its outcome, after the text of the replies to its events if a schedule is drilled
 abbrev pub IsBlock : Names → List Rule → Option (List Section) → Entry → Block → Type 0
 IsBlock names rules None entry b = b ≡ record { text = goal_text names rules entry; closed = is_closed (goal_outcome rules entry) }
 IsBlock names rules (Some sections) entry b = IsDrilled names rules (events_of sections entry.name) entry b

@@ -13,7 +13,7 @@ use Rattle.mp_run.specs.Goals.{GoalsAnswer}
 use Rattle.mp_run.specs.Lines.{LongCause}
 
 module _ (files : List ℕ → Option (List ℕ)) where
-  -- the goals of a script are answered; where there is a schedule, it is read first, and drilled
+  -- the goals of a script are answered; if there is a schedule, it is read first, and drilled
   abbrev pub ScheduleAnswers : Option (List ℕ) → List Rule → Goals → Names → Answer → Type 0
   ScheduleAnswers None rules goals names = GoalsAnswer names rules None goals.entries
   ScheduleAnswers (Some schedule) rules goals names =
@@ -25,7 +25,7 @@ module _ (files : List ℕ → Option (List ℕ)) where
   ScriptAnswers script schedule rules names =
       FileThen Script (files script) (ReadsScript rules names) (λ goals known. ScheduleAnswers schedule rules goals known)
 
-  -- what a command is answered, where the shelf holds these files: the theory is read, then the script in it, then the
+  -- what a command is answered if the shelf holds these files: the theory is read, then the script in it, then the
   -- schedule of its goals, if there is one; the first file that is refused is the answer, and else the goals' blocks are
   abbrev pub Answers : Command → Answer → Type 0
   Answers command =

@@ -10,12 +10,12 @@ use Rattle.mp_run.specs.Runs.{EndsSo}
 abbrev pub AreTold : (List ℕ → Option (List ℕ)) → Command → Type 0
 AreTold files command = IsSome (files command.theory) × IsSome (files command.script) × IfSome command.schedule (λ schedule. IsSome (files schedule))
 
--- a command has no two answers where its files are told
+-- a command has no two answers if its files are told
 abbrev pub OneAnswer : Type 0
 OneAnswer = (files : List ℕ → Option (List ℕ)) (command : Command) → AreTold files command
     → (one other : Answer) → Answers files command one → Answers files command other → one ≡ other
 
--- a command has an answer where its files are told
+-- a command has an answer if its files are told
 abbrev pub SomeAnswer : Type 0
 SomeAnswer = (files : List ℕ → Option (List ℕ)) (command : Command) → AreTold files command → (answer : Answer) × Answers files command answer
 

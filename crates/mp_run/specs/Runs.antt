@@ -21,7 +21,7 @@ Ends (Blocks blocks true) s text = (s ≡ status.AllClosed) × (text ≡ joined 
 Ends (Blocks blocks false) s text = (s ≡ status.NotAll) × (text ≡ joined blocks)
 Ends (Refusal line) s text = (s ≡ status.Refused) × (text ≡ line)
 
--- the files that a command reads: the theory and the script, and the schedule where it has one
+-- the files that a command reads: the theory and the script, and the schedule if it has one
 abbrev pub ReadsFile : Option (List ℕ) → FileKind → Type 0
 ReadsFile schedule Theory = ⊤
 ReadsFile schedule Script = ⊤
@@ -50,7 +50,7 @@ module _ (Fails : FileKind → Type 0) (IsAnswer : Answer → Type 0) where
   abbrev pub MayBegin : List ℕ → Type 0
   MayBegin text = (text ≡ []) ⊎ ((rest : List ℕ) × MayWrite (text ++ rest))
 
-  -- each status with its text, where the words are a command's
+  -- each status with its text, if the words are a command
   abbrev pub CommandWrites : Status → List ℕ → Type 0
   CommandWrites status.AllClosed text = EndsSo IsAnswer status.AllClosed text
   CommandWrites status.NotAll text = EndsSo IsAnswer status.NotAll text
@@ -60,7 +60,7 @@ module _ (Fails : FileKind → Type 0) (IsAnswer : Answer → Type 0) where
   CommandWrites status.NoMemory text = MayBegin text
   CommandWrites status.Usage text = ⊥
 
--- and where they are not: the usage line, or the first bytes of it
+-- what is written if the words are no command: the usage line, or its first bytes
 abbrev pub UsageWrites : Status → List ℕ → Type 0
 UsageWrites status.Usage text = text ≡ usage_line
 UsageWrites status.WriteFault text = (rest : List ℕ) × (text ++ rest ≡ usage_line)
@@ -71,7 +71,7 @@ abbrev pub RunWrites : (Command → Answer → Type 0) → (reads_before reads_n
 RunWrites answers before now None s text = UsageWrites s text
 RunWrites answers before now (Some command) s text = CommandWrites (FailsFile before now command.schedule) (answers command) s text
 
--- a fault comes only where its count rose, and another status, memory aside, only where no count rose
+-- a fault comes only if its count rose, and another status, memory aside, only if no count rose
 abbrev pub RunCause : Status → (reads_before reads_now writes_before writes_now : ℕ) → Type 0
 RunCause status.ReadFault r r' w w' = Rose r r' × (w' ≡ w)
 RunCause status.WriteFault r r' w w' = Rose w w'

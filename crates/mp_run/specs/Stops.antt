@@ -44,8 +44,8 @@ GivesValue told kind reads names (Err (stop.Refused line)) = IfSome told (λ byt
 GivesValue told kind reads names (Err (stop.Fault file)) = file ≡ kind
 GivesValue told kind reads names (Err stop.NoMemory) = ⊤
 
--- A fault was counted where a file couldn't be read, and nowhere else. A line that a file is over the limit comes only
--- where the count of long files rose, and that count never falls.
+-- the cause of a load's answer: a fault was counted if a file couldn't be read, and else none; a line that a file is over the
+-- limit comes only if the count of long files rose, and that count never falls
 abbrev pub StopCause : {V : Type 0} → (faults_before faults_now longs_before longs_now : ℕ) → Result V Stop → Type 0
 StopCause faults now longs later (Ok value) = (now ≡ faults) × (longs ≤ later)
 StopCause faults now longs later (Err (stop.Refused line)) = (now ≡ faults) × LongCause longs later line
@@ -68,7 +68,7 @@ StopWrites (stop.Refused line) s text = TellWrites line status.Refused s text
 StopWrites (stop.Fault file) s text = TellWrites (fault_line file) status.ReadFault s text ⊎ ((s ≡ status.NoMemory) × (text ≡ []))
 StopWrites stop.NoMemory s text = (s ≡ status.NoMemory) × (text ≡ [])
 
--- a write fault comes only where the sink's count rose, and the count stays else
+-- a write fault comes only if the sink's count rose, and the count stays else
 abbrev pub WriteCause : ℕ → ℕ → Status → Type 0
 WriteCause before now status.WriteFault = Rose before now
 WriteCause before now other = now ≡ before

@@ -5,6 +5,7 @@ mod block;
 mod command;
 mod goals;
 mod laws;
+mod limits;
 mod lines;
 mod loading;
 mod reading;
@@ -14,5 +15,6 @@ mod stop;
 mod telling;
 
 pub use laws::{one_answer, some_answer};
+pub use limits::LONGEST_FILE;
 pub use run::run_here;
 pub use status::Status;

@@ -1,4 +1,5 @@
-ghost use Rattle.std.specs.Prelude.{◌≡◌, ◌≤◌, length, map, IfOk};
+ghost use Rattle.std.specs.Prelude.{◌≡◌, ◌≤◌, ◌*◌, length, map, IfOk};
+ghost use Rattle.mp_run.specs.declared.limits.TheConstants.{LONGEST_FILE};
 ghost use Rattle.mp_scripttext.specs.Entries.{EachGood};
 ghost use Rattle.mp_run.specs.Headline.{Answers, ScriptAnswers, ScheduleAnswers};
 ghost use Rattle.mp_run.specs.Loads.{LoadsSo};
@@ -48,7 +49,7 @@ fn with_schedule<H: Shelf>(
     script: Script,
     schedule: Option<&Text>,
 ) -> Result<Loaded, Stop>
-    requires room { length names ≤ 2097152 }
+    requires room { length names ≤ 2 * LONGEST_FILE }
     requires good { EachGood theory script.entries }
     ensures answers { LoadsSo (ReadsFile (word_seen schedule.entry)) (ScheduleAnswers (H.bytes shelf.old) (word_seen schedule.entry) theory script names) result }
     ensures kept { Keeps (H.bytes shelf.old) (H.bytes shelf.new) }
@@ -89,7 +90,7 @@ fn with_script<H: Shelf>(
     script: &Text,
     schedule: Option<&Text>,
 ) -> Result<Loaded, Stop>
-    requires room { length names ≤ 1048576 }
+    requires room { length names ≤ LONGEST_FILE }
     ensures answers { LoadsSo (ReadsFile (word_seen schedule.entry)) (ScriptAnswers (H.bytes shelf.old) script.now (word_seen schedule.entry) theory names) result }
     ensures kept { Keeps (H.bytes shelf.old) (H.bytes shelf.new) }
     ensures cause { StopCause (H.faults shelf.old) (H.faults shelf.new) (H.longs shelf.old) (H.longs shelf.new) result }

@@ -1,4 +1,5 @@
 ghost use Rattle.std.specs.Prelude.{◌≡◌, ◌≤◌, ◌+◌, ◌-◌, ◌<◌, ◌^◌, ℕ, List, length, IfOk};
+ghost use Rattle.mp_run.specs.declared.limits.TheConstants.{LONGEST_FILE};
 ghost use Rattle.mp_theorytext.specs.Reading.{ReadsTheory};
 ghost use Rattle.mp_scripttext.specs.Reading.{ReadsScript};
 ghost use Rattle.mp_drill.specs.ScheduleReading.{ReadsSchedule};
@@ -7,6 +8,7 @@ ghost use Rattle.mp_drill.specs.ScheduleValues.{EachInRange};
 ghost use Rattle.mp_run.specs.Runs.{Keeps};
 ghost use Rattle.mp_run.specs.Stops.{GivesBytes, GivesValue, StopCause, StopsRead};
 
+use crate::limits::LONGEST_FILE;
 use crate::lines::{refused, too_long};
 use crate::stop::Stop;
 use mp_drill::{Section, read_schedule};
@@ -20,9 +22,6 @@ use mp_theorytext::read_theory;
 use mp_words::TextFail;
 use std::alloc::Global;
 
-/// The limit on the length of a file, in bytes.
-const LIMIT: u64 = 1048576;
-
 /// The bytes of a file that is within the limit.
 fn read_file<H: Shelf>(
     alloc: Global,
@@ -34,7 +33,7 @@ fn read_file<H: Shelf>(
     ensures gives { GivesBytes (H.bytes shelf.old name.now) kind result }
     ensures cause { StopCause (H.faults shelf.old) (H.faults shelf.new) (H.longs shelf.old) (H.longs shelf.new) result }
 {
-    match shelf.read(alloc, name, LIMIT) {
+    match shelf.read(alloc, name, LONGEST_FILE) {
         Ok(text) => Ok(text),
         Err(ReadErr::TooLong) => Err(too_long(alloc, kind)),
         Err(ReadErr::Failed) => Err(Stop::Fault(kind)),
@@ -59,10 +58,10 @@ pub fn theory_of<H: Shelf>(
     names: &mut Names,
     name: &Text,
 ) -> Result<Theory, Stop>
-    requires room { length names.old + 1048576 < 2 ^ 32 - 1 }
+    requires room { length names.old + LONGEST_FILE < 2 ^ 32 - 1 }
     ensures kept { Keeps (H.bytes shelf.old) (H.bytes shelf.new) }
     ensures gives { GivesValue (H.bytes shelf.old name.now) FileKind.Theory (ReadsTheory names.old) names.new result }
-    ensures few { length names.new ≤ length names.old + 1048576 }
+    ensures few { length names.new ≤ length names.old + LONGEST_FILE }
     ensures cause { StopCause (H.faults shelf.old) (H.faults shelf.new) (H.longs shelf.old) (H.longs shelf.new) result }
 {
     let source = read_file(alloc, shelf, name, FileKind::Theory)?;
@@ -80,11 +79,11 @@ pub fn script_of<H: Shelf>(
     theory: &Theory,
     name: &Text,
 ) -> Result<Script, Stop>
-    requires room { length names.old + 1048576 < 2 ^ 32 - 1 }
+    requires room { length names.old + LONGEST_FILE < 2 ^ 32 - 1 }
     ensures kept { Keeps (H.bytes shelf.old) (H.bytes shelf.new) }
     ensures gives { GivesValue (H.bytes shelf.old name.now) FileKind.Script (ReadsScript theory.now names.old) names.new result }
     ensures good { IfOk result (λ script. EachGood theory.now script.entries) }
-    ensures few { length names.new ≤ length names.old + 1048576 }
+    ensures few { length names.new ≤ length names.old + LONGEST_FILE }
     ensures cause { StopCause (H.faults shelf.old) (H.faults shelf.new) (H.longs shelf.old) (H.longs shelf.new) result }
 {
     let source = read_file(alloc, shelf, name, FileKind::Script)?;
@@ -102,7 +101,7 @@ pub fn schedule_of<H: Shelf>(
     goals: &Items<Sym>,
     name: &Text,
 ) -> Result<Items<Section>, Stop>
-    requires room { length names.old + 1048576 < 2 ^ 32 - 1 }
+    requires room { length names.old + LONGEST_FILE < 2 ^ 32 - 1 }
     ensures kept { Keeps (H.bytes shelf.old) (H.bytes shelf.new) }
     ensures gives { GivesValue (H.bytes shelf.old name.now) FileKind.Schedule (ReadsSchedule goals.now names.old) names.new result }
     ensures range { IfOk result EachInRange }

@@ -40,7 +40,7 @@ fn run_command<H: Shelf, K: Sink>(
 /// Runs the command that the words give, over these files and into this sink, and answers how it ended.
 ///
 /// Where no fault is counted and memory suffices, the bytes taken are the whole answer to the files: goal by goal the
-/// text of the tree or failure that evaluation from left to right gives, behind the replies of the drill where one is
+/// text of the tree or failure that evaluation from left to right gives, after the replies of the drill if one is
 /// drilled; or the line that tells why a file is refused. Usage comes exactly where the words are no command; it reads
 /// nothing and takes no memory.
 pub fn run_here<H: Shelf, K: Sink>(

@@ -20,15 +20,18 @@ Evaluator G = ℕ → G → Outcome G
 abbrev pub Trees : Type 0 → Type 0
 Trees G = Result (List (Tree G)) (Failure G)
 
+-- the trees of a leaf and of the leaves right of it: the first failure from the left, or all trees
 abbrev pub with_first : {G : Type 0} → Outcome G → Trees G → Trees G
 with_first (outcome.Failure e) others = Err e
 with_first (outcome.Tree t) (Ok ts) = Ok (t ∷ ts)
 with_first (outcome.Tree t) (Err e) = Err e
 
+-- the trees of all leaves, each evaluated with the fuel that is left there
 abbrev pub all_of : {G : Type 0} → Evaluator G → List (G × ℕ) → Trees G
 all_of each [] = Ok []
 all_of each (leaf ∷ leaves) = with_first (each leaf.1 leaf.0) (all_of each leaves)
 
+-- the tree with these trees in the place of its leaves, or the failure
 abbrev pub grafted : {G : Type 0} → Tree G → Trees G → Outcome G
 grafted t (Ok ts) = outcome.Tree (graft_of t ts)
 grafted t (Err e) = outcome.Failure e
@@ -43,7 +46,7 @@ then_of (outcome.Failure e) each f = outcome.Failure e
 then_of (outcome.Tree t) each f = on_leaves each t f
 
 module _ {G J : Type 0} (step : J → G → steps.Outcome G) (justs : List J) where
-  -- the outcome of an entry that stands at a place and has so many repeats left; part says that of the entries behind it
+  -- the outcome of an entry that stands at a place and has so many repeats left; part says that of the entries after it
   abbrev pub row_of : Tac → ℕ → (ℕ → Evaluator G) → ℕ → Evaluator G
   row_of tac.Id here part left f g = outcome.Tree (Leaf g)
   row_of (tac.Step j) here part left f g = step_with step justs here j f g

@@ -1,6 +1,7 @@
 -- When a table of strategies fits.
 use Rattle.std.specs.Prelude.{ℕ, ◌+◌, ◌-◌, max, Bool, true, ◌&&◌, nat_lt, nat_le, List, [], ◌∷◌, length, map, slice_index}
 use Rattle.std.specs.List.{list_all}
+use Rattle.mp_strategy.specs.declared.limits.TheConstants.{MOST_DEPTH, MOST_NODES}
 use Rattle.mp_strategy.specs.declared.tactic.Tac.{Tac}
 use Rattle.mp_strategy.specs.declared.tactic.Tac.TheVariants as tac
 
@@ -16,7 +17,7 @@ justs_of tac.Id = []
 justs_of (tac.Step j) = j.0 ∷ []
 justs_of (tac.Then a b) = []
 
--- the place stands behind this one, in a table of so many entries
+-- the place comes after this one, in a table of so many entries
 abbrev pub is_behind : ℕ → ℕ → ℕ → Bool
 is_behind here count place = nat_lt here place && nat_lt place count
 
@@ -24,7 +25,7 @@ is_behind here count place = nat_lt here place && nat_lt place count
 abbrev pub row_fits : ℕ → ℕ → ℕ → Tac → Bool
 row_fits justs here count t = list_all (is_behind here count) (parts_of t) && list_all (λ just. nat_lt just justs) (justs_of t)
 
--- each entry does; here is the place of the first one
+-- each entry of a list fits; here is the place of the first one
 abbrev pub rows_fit : ℕ → ℕ → List Tac → Bool
 rows_fit justs here [] = true
 rows_fit justs here (t ∷ ts) = row_fits justs here (here + 1 + length ts) t && rows_fit justs (here + 1) ts
@@ -34,7 +35,7 @@ abbrev pub greatest : List ℕ → ℕ
 greatest [] = 0
 greatest (n ∷ ns) = max n (greatest ns)
 
--- one more than the greatest depth of the parts, by the depths of the entries behind: a strategy without parts has depth 1
+-- one more than the greatest depth of the parts, by the depths of the entries after it: a strategy without parts has depth 1
 abbrev pub depth_by : ℕ → List ℕ → Tac → ℕ
 depth_by here behind t = 1 + greatest (map (λ place. slice_index behind (place - (here + 1))) (parts_of t))
 
@@ -46,4 +47,4 @@ depths here (t ∷ ts) = depth_by here (depths (here + 1) ts) t ∷ depths (here
 -- the table has 1 to 4,096 entries, each of them fits, and none is deeper than 64
 abbrev pub fits_of : ℕ → List Tac → Bool
 fits_of justs tacs =
-    nat_lt 0 (length tacs) && (nat_le (length tacs) 4096 && (rows_fit justs 0 tacs && list_all (λ depth. nat_le depth 64) (depths 0 tacs)))
+    nat_lt 0 (length tacs) && (nat_le (length tacs) MOST_NODES && (rows_fit justs 0 tacs && list_all (λ depth. nat_le depth MOST_DEPTH) (depths 0 tacs)))

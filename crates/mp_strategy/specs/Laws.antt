@@ -15,6 +15,7 @@ use Rattle.mp_strategy.specs.Fits.{greatest}
 use Rattle.mp_strategy.specs.Strategies.{Evals}
 use Rattle.mp_strategy.specs.Evaluation.{eval}
 
+-- the depth of a tree by those of its kids
 abbrev pub depth_step : {G : Type 0} → Tree-F G ℕ → ℕ
 depth_step (layer.Leaf g) = 0
 depth_step (layer.Step g just kids) = 1 + greatest kids
@@ -38,7 +39,7 @@ module _ {G J : Type 0} (step : J → G → steps.Outcome G) (justs : List J) wh
   abbrev pub EvalIsAllowed : List Tac → Type 0
   EvalIsAllowed tacs = (work : Work G) → work.tac.0 < length tacs → Evals step justs tacs work (eval step justs tacs work)
 
-  -- the relation allows nothing else, where there is no race: so far there is none
+  -- the relation allows nothing but what evaluation gives: no strategy is a race
   abbrev pub OnlyEvalIsAllowed : List Tac → Type 0
   OnlyEvalIsAllowed tacs = (work : Work G) (o : Outcome G) → Evals step justs tacs work o → o ≡ eval step justs tacs work
 

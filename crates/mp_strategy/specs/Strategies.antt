@@ -33,12 +33,12 @@ abbrev pub stepped : {G : Type 0} → ℕ → JustId → G → steps.Outcome G �
 stepped here just g (Ok kids) = outcome.Tree (Step g just (map Leaf kids))
 stepped here just g (Err w) = failure (kind_of w) here g
 
--- by a justification of the list; no table that fits names one that isn't there
+-- a step by a justification of the list; no table that fits names one that isn't there
 abbrev pub step_by : {G J : Type 0} → (J → G → steps.Outcome G) → Option J → ℕ → JustId → G → Outcome G
 step_by step (Some j) here just g = stepped here just g (step j g)
 step_by step None here just g = failure kind.Failed here g
 
--- a step has no fuel where the fuel is 0
+-- a step with so much fuel: out of fuel if it is 0, else by the justification of this number
 abbrev pub step_with : {G J : Type 0} → (J → G → steps.Outcome G) → List J → ℕ → JustId → ℕ → G → Outcome G
 step_with step justs here just zero g = failure kind.OutOfFuel here g
 step_with step justs here just (suc f) g = step_by step (slice_get justs just.0) here just g
@@ -71,12 +71,12 @@ ThenGives {G} first second f g o =
     ((e : Failure G) × first f g (outcome.Failure e) × (o ≡ outcome.Failure e))
     ⊎ ((t : Tree G) × first f g (outcome.Tree t) × All second t f o)
 
--- how often a strategy repeats; no strategy does so far
+-- how often an entry of the table repeats: none does
 abbrev pub left_of : Option Tac → ℕ
 left_of entry = 0
 
 module _ {G J : Type 0} (step : J → G → steps.Outcome G) (justs : List J) where
-  -- what an entry gives that stands at a place and has so many repeats left; part says what the entries behind it give
+  -- what an entry gives that stands at a place and has so many repeats left; part says what the entries after it give
   abbrev pub Row : Tac → ℕ → (ℕ → Gives G) → ℕ → Gives G
   Row tac.Id here part left f g o = o ≡ outcome.Tree (Leaf g)
   Row (tac.Step j) here part left f g o = o ≡ step_with step justs here j f g

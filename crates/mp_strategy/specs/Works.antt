@@ -1,5 +1,6 @@
 -- A strategy that is tried on a goal.
 use Rattle.std.specs.Prelude.{ℕ, ◌<◌, ◌≤◌, Bool, IsTrue, List, length, slice_get}
+use Rattle.mp_strategy.specs.declared.limits.TheConstants.{MOST_FUEL}
 use Rattle.mp_strategy.specs.declared.tactic.Tac.{Tac}
 use Rattle.mp_strategy.specs.declared.tactic.TacId.{TacId}
 use Rattle.mp_strategy.specs.declared.work.Work.{Work}
@@ -12,5 +13,5 @@ work_of tacs t f g = record { tac = t; left = left_of (slice_get tacs t.0); fuel
 -- what each call asks of a work
 pub record IsWork {G : Type 0} (is_good : G → Bool) (tacs : List Tac) (work : Work G) : Type 0 where
   pub tac : work.tac.0 < length tacs
-  pub fuel : work.fuel ≤ 400
+  pub fuel : work.fuel ≤ MOST_FUEL
   pub good : IsTrue (is_good work.goal)

@@ -1,12 +1,11 @@
 ghost use Rattle.std.specs.Prelude.{◌≡◌, ℕ, ◌+◌, ◌<◌, ◌≤◌, nat_le, nat_lt, length, map, slice_index, IsTrue};
 ghost use Rattle.std.specs.List.{list_all};
+ghost use Rattle.mp_strategy.specs.declared.limits.TheConstants.{MOST_DEPTH, MOST_NODES};
 ghost use Rattle.mp_strategy.specs.Fits.{parts_of, greatest, is_behind as is_behind_of, row_fits as row_fits_of, rows_fit, depths as depths_of, fits_of};
 
+use crate::limits::{MOST_DEPTH, MOST_NODES};
 use crate::{Tac, TacId};
 use mp_logic::List;
-
-/// The greatest number of entries of a table.
-const MOST_ENTRIES: usize = 4096;
 
 /// Whether the table fits so many justifications: it has 1 to 4,096 entries, the parts of each entry have
 /// greater numbers and are in the table, its justifications are in range, and none is deeper than 64. A
@@ -16,12 +15,12 @@ pub fn fits(justs: u32, tacs: &List<Tac>) -> bool
 {
     let entries = tacs.as_slice();
     !entries.is_empty()
-        && entries.len() <= MOST_ENTRIES
+        && entries.len() <= MOST_NODES
         && each_fits(justs, entries)
         && is_shallow(justs, entries)
 }
 
-/// Whether the parts of each entry stand behind it in the table, and its justifications are in range.
+/// Whether the parts of each entry come after it in the table, and its justifications are in range.
 #[tactic(auto, using(crate::proofs::Tables::rows_step))]
 fn each_fits(justs: u32, entries: &[Tac]) -> bool
     ensures { result ≡ rows_fit justs 0 entries.now }
@@ -56,15 +55,15 @@ fn is_behind(here: usize, count: usize, part: TacId) -> bool
 /// Whether no entry is deeper than 64. It goes from the last entry to the first, so that the depths of
 /// the parts are known.
 fn is_shallow(justs: u32, entries: &[Tac]) -> bool
-    requires few { length entries.now ≤ 4096 }
+    requires few { length entries.now ≤ MOST_NODES }
     requires fit { IsTrue (rows_fit justs 0 entries.now) }
-    ensures { result ≡ list_all (λ depth. nat_le depth 64) (depths_of 0 entries.now) }
+    ensures { result ≡ list_all (λ depth. nat_le depth MOST_DEPTH) (depths_of 0 entries.now) }
 {
-    let mut depths = [0u8; MOST_ENTRIES];
+    let mut depths = [0u8; MOST_NODES];
     for behind in 0..entries.len() {
         let here = entries.len() - 1 - behind;
         let depth = depth_by(&depths, &entries[here]);
-        if depth > 64 {
+        if depth > MOST_DEPTH {
             return false;
         }
         depths[here] = depth;
@@ -73,9 +72,9 @@ fn is_shallow(justs: u32, entries: &[Tac]) -> bool
 }
 
 /// One more than the greatest depth of the parts.
-fn depth_by(depths: &[u8; MOST_ENTRIES], entry: &Tac) -> u8
-    requires parts { IsTrue (list_all (λ place. nat_lt place 4096) (parts_of entry.now)) }
-    requires shallow { (k : ℕ) → slice_index depths.now k ≤ 64 }
+fn depth_by(depths: &[u8; MOST_NODES], entry: &Tac) -> u8
+    requires parts { IsTrue (list_all (λ place. nat_lt place MOST_NODES) (parts_of entry.now)) }
+    requires shallow { (k : ℕ) → slice_index depths.now k ≤ MOST_DEPTH }
     ensures { result ≡ 1 + greatest (map (slice_index depths.now) (parts_of entry.now)) }
 {
     match entry {

@@ -2,12 +2,14 @@
 #![tactic(auto)]
 
 mod fitting;
+mod limits;
 mod outcome;
 mod problem;
 mod tactic;
 mod work;
 
 pub use fitting::fits;
+pub use limits::{MOST_DEPTH, MOST_FUEL, MOST_NODES, MOST_REPEATS};
 pub use outcome::{Failure, Kind, Outcome, copy_outcome};
 pub use problem::Problem;
 pub use tactic::{Tac, TacId};

@@ -1,4 +1,5 @@
 ghost use Rattle.std.specs.Prelude.{◌≡◌, ◌<◌, ◌≤◌, length, IsTrue, IfOk};
+ghost use Rattle.mp_strategy.specs.declared.limits.TheConstants.{MOST_FUEL};
 ghost use Rattle.mp_strategy.specs.Works.{work_of, IsWork};
 
 use crate::{Problem, TacId};
@@ -22,7 +23,7 @@ impl<G: Drop> Work<G> {
     /// The work of a strategy of the problem on a goal.
     pub fn of<L: Logic<Goal = G>>(problem: &Problem<L>, tac: TacId, fuel: u32, goal: G) -> Work<G>
         requires tac { tac.0 < length problem.now.tacs }
-        requires fuel { fuel ≤ 400 }
+        requires fuel { fuel ≤ MOST_FUEL }
         requires good { IsTrue (L.good problem.now.logic.now goal) }
         ensures value { result ≡ work_of problem.now.tacs tac fuel goal }
         ensures fits { IsWork (L.good problem.now.logic.now) problem.now.tacs result }

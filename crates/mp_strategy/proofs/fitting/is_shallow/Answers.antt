@@ -12,13 +12,13 @@ depth_by-depth-requires-clause-parts c =
     let lt : i < length c.args.entries.now = omega (arith, c.loop-behind-test.true) in
     parts_within i (length c.args.entries.now) 4096 _ c.requires.few (parts_at c.args.justs c.args.entries.now i _ tac.Id c.requires.fit lt refl)
 
-pub returns-then-depth-gt64 : goal.returns-then-depth-gt64
-returns-then-depth-gt64 c =
+pub returns-then-depth-gt-MOST_DEPTH : goal.returns-then-depth-gt-MOST_DEPTH
+returns-then-depth-gt-MOST_DEPTH c =
     let i = length c.args.entries.now - 1 - c.loop-behind.behind in
     let lt : i < length c.args.entries.now = omega (arith, c.loop-behind-test.true) in
     let here : length c.args.entries.now - c.loop-behind.behind ≡ i + 1 = omega (arith, c.loop-behind-test.true) in
     let found = subst (λ n. Found c.args.entries.now n c.loop-behind.depths) here c.loop-behind.invariant in
-    sym (too_deep c.args.entries.now i c.depth_by-depth.result _ tac.Id c.loop-behind.depths found (parts_at c.args.justs c.args.entries.now i _ tac.Id c.requires.fit lt refl) lt refl c.depth_by-depth.ensures c.if-depth-gt64.true)
+    sym (too_deep c.args.entries.now i c.depth_by-depth.result _ tac.Id c.loop-behind.depths found (parts_at c.args.justs c.args.entries.now i _ tac.Id c.requires.fit lt refl) lt refl c.depth_by-depth.ensures c.if-depth-gt-MOST_DEPTH.true)
 
 pub loop-behind-preserved : goal.loop-behind-preserved
 loop-behind-preserved c =
@@ -27,4 +27,4 @@ loop-behind-preserved c =
     let here : length c.args.entries.now - c.loop-behind.behind ≡ i + 1 = omega (arith, c.loop-behind-test.true) in
     let next : i ≡ length c.args.entries.now - (c.loop-behind.behind + 1) = omega (arith, c.loop-behind-test.true) in
     let found = subst (λ n. Found c.args.entries.now n c.loop-behind.depths) here c.loop-behind.invariant in
-    found_next c.args.entries.now i c.depth_by-depth.result _ tac.Id c.loop-behind.depths found (parts_at c.args.justs c.args.entries.now i _ tac.Id c.requires.fit lt refl) lt refl c.depth_by-depth.ensures c.if-depth-gt64.false _ next
+    found_next c.args.entries.now i c.depth_by-depth.result _ tac.Id c.loop-behind.depths found (parts_at c.args.justs c.args.entries.now i _ tac.Id c.requires.fit lt refl) lt refl c.depth_by-depth.ensures c.if-depth-gt-MOST_DEPTH.false _ next
