@@ -14,7 +14,8 @@ use Rattle.mp_subst.specs.Subst.{variables, AreInScope, widest_of, widest_in}
 use Rattle.mp_subst.proofs.Layers.{widest-Var}
 use Rattle.mp_subst.proofs.SubLaws.{get_or-variables, variables-append}
 use Rattle.mp_schema.specs.Instances.{upto}
-use Rattle.mp_schema.specs.Sequents.{Instance, Spot, joined, ground_at, wide_of}
+use Rattle.mp_schema.specs.Sequents.{Instance, Spot, ground_at, wide_of}
+use Rattle.mp_logic.specs.Lists.{joined}
 use Rattle.mp_schema.specs.Conditions.{has, has_all}
 use Rattle.mp_build.specs.Sites.{IsSpot, env_at}
 

@@ -8,7 +8,7 @@ use Rattle.std.proofs.lemmas.List.{length-append}
 use Rattle.std.proofs.lemmas.List.Elements.{All-append}
 use Rattle.mp_logic.specs.declared.sym.Sym.{Sym}
 use Rattle.mp_term.specs.declared.term.Term.{Term}
-use Rattle.mp_term.specs.Terms.{at_scope}
+use Rattle.mp_term.specs.Terms.{all_at_scope}
 use Rattle.mp_term.specs.Limits.{in_scopes_from}
 use Rattle.mp_subst.proofs.SubLaws.{drop-at}
 use Rattle.mp_schema.specs.declared.pattern.Pattern.{Pattern}
@@ -26,7 +26,7 @@ use Rattle.mp_build.proofs.Placed.{room-ge}
 use Rattle.mp_build.proofs.TermFacts.{env-here}
 
 pub all_placed-parts : (ps : List Pattern) (b : Before) → IsTrue (all_placed ps b) →
-    IsTrue (at_scope b.named (map below ps)) × IsTrue (all_pass (map (lists_known b.contexts) ps))
+    IsTrue (all_at_scope b.named (map below ps)) × IsTrue (all_pass (map (lists_known b.contexts) ps))
 all_placed-parts [] b h = (refl, refl)
 all_placed-parts (p ∷ ps) b h =
     let rest : IsTrue (all_placed ps b) = grind (arith, common_steps) in

@@ -2,7 +2,7 @@
 use Rattle.std.proofs.Common.{◌≡◌, ℕ, ◌+◌, List, length, map, max, sum, rules}
 use Rattle.std.proofs.lemmas.List.{length-map}
 use Rattle.mp_logic.specs.declared.sym.Sym.{Sym}
-use Rattle.mp_term.specs.Terms.{greatest}
+use Rattle.mp_logic.specs.Lists.{greatest}
 use Rattle.mp_subst.specs.Subst.{widest_of, widest_at}
 use Rattle.mp_subst.specs.Sizes.{sub_size, sub_depth}
 use Rattle.mp_schema.specs.declared.pattern.ParamPat.{ParamPat}

@@ -3,7 +3,7 @@ use Rattle.std.proofs.Common.{◌≡◌, ℕ, ◌+◌, List, length, map, rules}
 use Rattle.std.specs.Prelude.{◌&&◌, nat_le}
 use Rattle.std.proofs.lemmas.List.{length-map}
 use Rattle.mp_logic.specs.declared.sym.Sym.{Sym}
-use Rattle.mp_term.specs.Terms.{greatest}
+use Rattle.mp_logic.specs.Lists.{greatest}
 use Rattle.mp_schema.specs.declared.pattern.ParamPat.{ParamPat}
 use Rattle.mp_schema.specs.declared.pattern.Pattern.{Pattern, the_lemmas}
 use Rattle.mp_schema.specs.declared.pattern.Pattern as pat

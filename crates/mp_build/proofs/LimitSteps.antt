@@ -5,7 +5,7 @@ use Rattle.std.proofs.lemmas.Grind.{common_steps}
 use Rattle.std.proofs.lemmas.List.{map-append, get_or-map}
 use Rattle.mp_term.specs.declared.measure.Weight.{Weight}
 use Rattle.mp_term.specs.declared.term.Term.{Term}
-use Rattle.mp_term.specs.Terms.{greatest}
+use Rattle.mp_logic.specs.Lists.{greatest}
 use Rattle.mp_subst.specs.Subst.{occurs_in}
 use Rattle.mp_subst.specs.Sizes.{sub_size, sub_depth}
 use Rattle.mp_subst.proofs.SubLaws.{drop-at}

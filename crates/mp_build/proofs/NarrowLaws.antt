@@ -6,7 +6,7 @@ use Rattle.std.proofs.lemmas.Bool.Decides.{nat_tests}
 use Rattle.std.proofs.lemmas.Grind.{common_steps}
 use Rattle.mp_logic.specs.declared.sym.Sym.{Sym}
 use Rattle.mp_term.specs.declared.term.Term.{Term, Var}
-use Rattle.mp_term.specs.Terms.{greatest}
+use Rattle.mp_logic.specs.Lists.{greatest}
 use Rattle.mp_term.proofs.Layers.{few-Var, depth-Var}
 use Rattle.mp_subst.specs.Subst.{widest_of, widest_at}
 use Rattle.mp_subst.proofs.BinderLaws.{width_few}

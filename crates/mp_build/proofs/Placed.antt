@@ -5,7 +5,7 @@ use Rattle.std.proofs.lemmas.Grind.{common_steps}
 use Rattle.std.proofs.lemmas.List.{length-map, length-append}
 use Rattle.mp_logic.specs.declared.sym.Sym.{Sym}
 use Rattle.mp_term.specs.declared.term.Term.{Term, Var}
-use Rattle.mp_term.specs.Terms.{in_scope_of, at_scope}
+use Rattle.mp_term.specs.Terms.{in_scope_of, all_at_scope}
 use Rattle.mp_term.proofs.Layers.{scoped_bound, in_scope-Var, in_scope-Op, scoped_bound-is}
 use Rattle.mp_subst.specs.Subst.{AreInScope, widest_of, widest_at, width_bound, widest_in}
 use Rattle.mp_subst.proofs.Layers.{widest-Var, widest-Op, width_bound-is}
@@ -71,15 +71,15 @@ module _ (v : Instance) (l : Spot) (base : ℕ) where
 
     abbrev BodiesPlaced : List PBound → ℕ → Type 0
     BodiesPlaced bs m =
-        IsTrue (at_scope m (map scoped_bound (bodies_at v l base bs m))) ×
+        IsTrue (all_at_scope m (map scoped_bound (bodies_at v l base bs m))) ×
         (widest_at m (map width_bound (bodies_at v l base bs m)) ≤ widest_at m (map (room_bound (wide_of v) v.values) bs))
 
-    placed_bounds : (bs : List PBound) (m : ℕ) → OfEachBody IsPlaced bs → base ≤ m → IsTrue (at_scope (length l.env + (m - base)) (map below_bound bs)) →
+    placed_bounds : (bs : List PBound) (m : ℕ) → OfEachBody IsPlaced bs → base ≤ m → IsTrue (all_at_scope (length l.env + (m - base)) (map below_bound bs)) →
         IsTrue (all_pass (map (fits_bound (wide_of v) v.values) bs)) → IsTrue (all_pass (map (lists_known_bound known) bs)) → BodiesPlaced bs m
     placed_bounds [] m h le b f k = (refl, omega arith)
     placed_bounds (x ∷ bs) m h le b f k =
         let b0 : IsTrue (below_bound x (length l.env + (m - base))) = grind (arith, common_steps) in
-        let b1 : IsTrue (at_scope (length l.env + (m - base)) (map below_bound bs)) = grind (arith, common_steps) in
+        let b1 : IsTrue (all_at_scope (length l.env + (m - base)) (map below_bound bs)) = grind (arith, common_steps) in
         let f0 : IsTrue (fits_bound (wide_of v) v.values x) = grind (arith, common_steps) in
         let f1 : IsTrue (all_pass (map (fits_bound (wide_of v) v.values) bs)) = grind (arith, common_steps) in
         let k0 : IsTrue (lists_known_bound known x) = grind (arith, common_steps) in
@@ -103,12 +103,12 @@ module _ (v : Instance) (l : Spot) (base : ℕ) where
     abbrev ArgsPlaced : List Pattern → ℕ → Type 0
     ArgsPlaced args m = AreRoomed v (args_at v l base args m) args m
 
-    placed_args : (args : List Pattern) (m : ℕ) → OfEachArg IsPlaced args → base ≤ m → IsTrue (at_scope (length l.env + (m - base)) (map below args)) →
+    placed_args : (args : List Pattern) (m : ℕ) → OfEachArg IsPlaced args → base ≤ m → IsTrue (all_at_scope (length l.env + (m - base)) (map below args)) →
         IsTrue (all_pass (map (fits (wide_of v) v.values) args)) → IsTrue (all_pass (map (lists_known known) args)) → ArgsPlaced args m
     placed_args [] m h le b f k = (AreInScope-none m, let e = widest_in-none m in omega (arith, e), refl)
     placed_args (x ∷ args) m h le b f k =
         let b0 : IsTrue (below x (length l.env + (m - base))) = grind (arith, common_steps) in
-        let b1 : IsTrue (at_scope (length l.env + (m - base)) (map below args)) = grind (arith, common_steps) in
+        let b1 : IsTrue (all_at_scope (length l.env + (m - base)) (map below args)) = grind (arith, common_steps) in
         let f0 : IsTrue (fits (wide_of v) v.values x) = grind (arith, common_steps) in
         let f1 : IsTrue (all_pass (map (fits (wide_of v) v.values) args)) = grind (arith, common_steps) in
         let k0 : IsTrue (lists_known known x) = grind (arith, common_steps) in
@@ -159,17 +159,17 @@ module _ (v : Instance) (l : Spot) (base : ℕ) where
     each_placed [] = tt
     each_placed (a ∷ args) = (inst-placed a, each_placed args)
 
-    pub args-placed : (args : List Pattern) (m : ℕ) → base ≤ m → IsTrue (at_scope (length l.env + (m - base)) (map below args)) →
+    pub args-placed : (args : List Pattern) (m : ℕ) → base ≤ m → IsTrue (all_at_scope (length l.env + (m - base)) (map below args)) →
         IsTrue (all_pass (map (fits (wide_of v) v.values) args)) → IsTrue (all_pass (map (lists_known known) args)) → ArgsPlaced args m
     args-placed args m le b f k = placed_args args m (each_placed args) le b f k
 
     -- the terms of the used arguments
-    pub used-placed : (t : Term) (level : ℕ) (args : List Pattern) (m : ℕ) → base ≤ m → IsTrue (at_scope (length l.env + (m - base)) (map below args)) →
+    pub used-placed : (t : Term) (level : ℕ) (args : List Pattern) (m : ℕ) → base ≤ m → IsTrue (all_at_scope (length l.env + (m - base)) (map below args)) →
         IsTrue (all_pass (map (fits (wide_of v) v.values) args)) → IsTrue (all_pass (map (lists_known known) args)) → AreRoomed v (used_terms v l base t level args m) args m
     used-placed t level [] m le b f k = (AreInScope-none m, let e = widest_in-none m in omega (arith, e), refl)
     used-placed t level (a ∷ args) m le b f k =
         let b0 : IsTrue (below a (length l.env + (m - base))) = grind (arith, common_steps) in
-        let b1 : IsTrue (at_scope (length l.env + (m - base)) (map below args)) = grind (arith, common_steps) in
+        let b1 : IsTrue (all_at_scope (length l.env + (m - base)) (map below args)) = grind (arith, common_steps) in
         let f0 : IsTrue (fits (wide_of v) v.values a) = grind (arith, common_steps) in
         let f1 : IsTrue (all_pass (map (fits (wide_of v) v.values) args)) = grind (arith, common_steps) in
         let k0 : IsTrue (lists_known known a) = grind (arith, common_steps) in

@@ -5,7 +5,7 @@ use Rattle.std.proofs.lemmas.Grind.{common_steps}
 use Rattle.std.proofs.lemmas.List.{length-append}
 use Rattle.mp_logic.specs.declared.sym.Sym.{Sym}
 use Rattle.mp_term.specs.declared.term.Term.{Term, Var}
-use Rattle.mp_term.specs.Terms.{in_scope_of, at_scope}
+use Rattle.mp_term.specs.Terms.{in_scope_of, all_at_scope}
 use Rattle.mp_term.specs.Limits.{in_scopes_from, sequent_in_scope_of}
 use Rattle.mp_subst.proofs.ScopeLaws.{scope_substituted}
 use Rattle.mp_schema.specs.declared.pattern.Pattern.{Pattern}
@@ -33,7 +33,7 @@ in_scopes-append n (x ∷ xs) ys h h' =
 
 module _ (v : Instance) where
   module _ (l : Spot) (cs : List Sym) (args : List Pattern) (known : List Sym) (spot : IsSpot v l known) (listed : IsTrue (has_all known cs))
-      (closed : IsTrue (at_scope (length l.env) (map below args))) (fitting : IsTrue (all_pass (map (fits (wide_of v) v.values) args)))
+      (closed : IsTrue (all_at_scope (length l.env) (map below args))) (fitting : IsTrue (all_pass (map (fits (wide_of v) v.values) args)))
       (args_listed : IsTrue (all_pass (map (lists_known known) args))) where
     telescope-in : (j : ℕ) (ts : List Term) → IsTrue (in_scopes_from (wide_of v cs + length args + j) ts) → IsTrue (in_scopes_from (l.next + j) (telescope v l cs args l.next j ts))
     telescope-in j [] h = refl

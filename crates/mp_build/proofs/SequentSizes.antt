@@ -8,7 +8,8 @@ use Rattle.std.proofs.lemmas.List.{map-append, length-append}
 use Rattle.std.proofs.lemmas.List.Sums.{sum_by-append}
 use Rattle.mp_logic.specs.declared.sym.Sym.{Sym}
 use Rattle.mp_term.specs.declared.term.Term.{Term, Var}
-use Rattle.mp_term.specs.Terms.{size_of, depth_of, greatest}
+use Rattle.mp_term.specs.Terms.{size_of, depth_of}
+use Rattle.mp_logic.specs.Lists.{greatest}
 use Rattle.mp_term.specs.Limits.{is_shallow, within_limits_of}
 use Rattle.mp_subst.specs.Subst.{variables, sub_of}
 use Rattle.mp_subst.specs.Sizes.{sub_size, sub_depth}

@@ -4,7 +4,8 @@ use Rattle.std.proofs.lemmas.Grind.{common_steps}
 use Rattle.std.proofs.lemmas.List.{map-append}
 use Rattle.mp_logic.specs.declared.sym.Sym.{Sym}
 use Rattle.mp_term.specs.declared.term.Term.{Var}
-use Rattle.mp_term.specs.Terms.{size_of, depth_of, greatest}
+use Rattle.mp_term.specs.Terms.{size_of, depth_of}
+use Rattle.mp_logic.specs.Lists.{greatest}
 use Rattle.mp_term.proofs.Layers.{size_bound, size-Var, size-Op, size_bound-is, depth_bound, depth-Var, depth-Op, depth_bound-is}
 use Rattle.mp_subst.specs.Subst.{variables}
 use Rattle.mp_subst.proofs.SizeLaws.{size-sub, depth-sub}

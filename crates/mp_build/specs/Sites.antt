@@ -4,7 +4,7 @@ use Rattle.std.specs.List.{list_all}
 use Rattle.mp_logic.specs.declared.sym.Sym.{Sym}
 use Rattle.mp_term.specs.declared.term.Term.{Term, Var, Op}
 use Rattle.mp_term.specs.declared.term.Bound.{Bound}
-use Rattle.mp_term.specs.Terms.{in_scope_of, at_scope}
+use Rattle.mp_term.specs.Terms.{in_scope_of, all_at_scope}
 use Rattle.mp_term.specs.Limits.{in_scopes_from}
 use Rattle.mp_subst.specs.Subst.{occurs_in, variables, sub_of, AreInScope, widest_of, widest_at}
 use Rattle.mp_schema.specs.declared.pattern.Pattern.{Pattern}
@@ -80,7 +80,7 @@ pub record AreBuildableBodies (v : Instance) (l : Spot) (base : ℕ) (bs : List 
   pub spot : IsSpot v l known
   pub outer : l.next ≤ base
   pub inner : base ≤ m
-  pub closed : IsTrue (at_scope (length l.env + (m - base)) (map below_bound bs))
+  pub closed : IsTrue (all_at_scope (length l.env + (m - base)) (map below_bound bs))
   pub fitting : IsTrue (all_pass (map (fits_bound (wide_of v) v.values) bs))
   pub listed : IsTrue (all_pass (map (lists_known_bound known) bs))
   pub narrow : widest_at m (map (room_bound (wide_of v) v.values) bs) < 2 ^ 31
@@ -91,7 +91,7 @@ pub record AreBuildableArgs (v : Instance) (l : Spot) (base : ℕ) (args : List 
   pub spot : IsSpot v l known
   pub outer : l.next ≤ base
   pub inner : base ≤ m
-  pub closed : IsTrue (at_scope (length l.env + (m - base)) (map below args))
+  pub closed : IsTrue (all_at_scope (length l.env + (m - base)) (map below args))
   pub fitting : IsTrue (all_pass (map (fits (wide_of v) v.values) args))
   pub listed : IsTrue (all_pass (map (lists_known known) args))
   pub narrow : widest_at m (map (room (wide_of v) v.values) args) < 2 ^ 31
@@ -109,7 +109,7 @@ pub record IsRowBuildable (v : Instance) (l : Spot) (ctxs : List Sym) (args : Li
   pub known : List Sym
   pub spot : IsSpot v l known
   pub listed : IsTrue (has_all known ctxs)
-  pub closed : IsTrue (at_scope (length l.env) (map below args))
+  pub closed : IsTrue (all_at_scope (length l.env) (map below args))
   pub fitting : IsTrue (all_pass (map (fits (wide_of v) v.values) args))
   pub args_listed : IsTrue (all_pass (map (lists_known known) args))
   pub scoped : IsTrue (in_scopes_from (wide_of v ctxs + length args + j) ts)

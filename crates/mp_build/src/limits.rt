@@ -1,6 +1,6 @@
 ghost use Rattle.std.specs.Prelude.{◌≡◌, ◌+◌, ◌<◌, ◌^◌, max, map, sum};
 ghost use Rattle.mp_logic.specs.Trees.{counted};
-ghost use Rattle.mp_term.specs.Terms.{greatest};
+ghost use Rattle.mp_logic.specs.Lists.{greatest};
 ghost use Rattle.mp_term.specs.Limits.{within_limits_of};
 ghost use Rattle.mp_subst.specs.Subst.{widest_at};
 ghost use Rattle.mp_schema.specs.Sequents.{seq, wide_of};

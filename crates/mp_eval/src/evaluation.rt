@@ -2,7 +2,8 @@ ghost use Rattle.std.specs.Prelude.{◌≡◌, ◌<◌, ◌≤◌, ℕ, IfOk, Is
 ghost use Rattle.std.specs.List.{AllByRecursion};
 ghost use Rattle.mp_logic.specs.declared.tree.Tree.TheVariants.{Leaf};
 ghost use Rattle.mp_logic.specs.Trees.{EachLeaf};
-ghost use Rattle.mp_strategy.specs.Fits.{greatest, row_fits};
+ghost use Rattle.mp_strategy.specs.Fits.{row_fits};
+ghost use Rattle.mp_logic.specs.Lists.{greatest};
 ghost use Rattle.mp_strategy.specs.Works.{IsWork};
 ghost use Rattle.mp_strategy.specs.Strategies.{Evals, kind_of as kind_of_why, failure as failure_of, step_with};
 ghost use Rattle.mp_strategy.specs.Evaluation.{eval, eval_in, row_of, whole, on_leaves as on_leaves_of};

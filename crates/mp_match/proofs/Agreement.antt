@@ -17,7 +17,8 @@ use Rattle.mp_schema.specs.declared.schema.Item.TheVariants.{Ctx, Hyp}
 use Rattle.mp_schema.specs.declared.schema.Schema.{Schema}
 use Rattle.mp_schema.specs.Induction.{OfEachBody, OfEachArg, each_pattern}
 use Rattle.mp_schema.specs.Instances.{Values, Ground, upto, made_each, param_of, inst_of, inst_bound, all_pass}
-use Rattle.mp_schema.specs.Sequents.{Instance, Spot, first_spot, joined, ground_at, telescope, hyps_of, hyps_from, behind, behind_all, concl_at, seq}
+use Rattle.mp_schema.specs.Sequents.{Instance, Spot, first_spot, ground_at, telescope, hyps_of, hyps_from, behind, behind_all, concl_at, seq}
+use Rattle.mp_logic.specs.Lists.{joined}
 use Rattle.mp_schema.specs.Conditions.{Before, nothing_before, past, past_all, has, has_all, is_apart, is_known, lists_known, below, each_item, item_placed, pattern_placed, all_placed, is_placed}
 use Rattle.mp_schema.specs.Values.{find_ctx, find_meta, find_param}
 use Rattle.mp_schema.proofs.Layers.{inst-Var, inst-Op, inst-Meta, inst_bound-is}

@@ -4,7 +4,7 @@ use Rattle.std.specs.List.{IsDistinct}
 use Rattle.std.proofs.lemmas.Bool.Decides.{nat_tests}
 use Rattle.std.proofs.lemmas.List.{length-append}
 use Rattle.mp_schema.specs.Instances.{upto}
-use Rattle.mp_schema.specs.Conditions.{Seen, is_variable, all_variables, all_apart, args_fine, or_zero}
+use Rattle.mp_schema.specs.Conditions.{Seen, is_level_below, all_variables, all_apart, args_fine, or_zero}
 use Rattle.mp_match.specs.Matching.{argument}
 use Rattle.mp_match.proofs.Equal.{both_true}
 use Rattle.mp_match.proofs.Ranges.{length-upto}
@@ -13,14 +13,14 @@ use Rattle.mp_match.proofs.Apart.{Apart, Below, Apart-from, Apart-to, Below-from
 abbrev pub levels_of_args : List Seen → List ℕ
 levels_of_args args = map (λ (a : Seen). or_zero a.level) args
 
-variable-below : (d : ℕ) (o : Option ℕ) → is_variable d o ≡ true → or_zero o < d
+variable-below : (d : ℕ) (o : Option ℕ) → is_level_below d o ≡ true → or_zero o < d
 variable-below d None h = absurd (cc)
 variable-below d (Some l) h = grind (arith, nat_tests, h)
 
 args-below : (d : ℕ) (args : List Seen) → all_variables d args ≡ true → Below d (levels_of_args args)
 args-below d [] h i lt = absurd (omega arith)
-args-below d (a ∷ rest) h zero lt = let k = both_true (is_variable d a.level) (all_variables d rest) h in variable-below d a.level k.0
-args-below d (a ∷ rest) h (suc i) lt = let k = both_true (is_variable d a.level) (all_variables d rest) h in args-below d rest k.1 i (omega arith)
+args-below d (a ∷ rest) h zero lt = let k = both_true (is_level_below d a.level) (all_variables d rest) h in variable-below d a.level k.0
+args-below d (a ∷ rest) h (suc i) lt = let k = both_true (is_level_below d a.level) (all_variables d rest) h in args-below d rest k.1 i (omega arith)
 
 pub fine-variables : (d : ℕ) (args : List Seen) → args_fine d args ≡ true → all_variables d args ≡ true
 fine-variables d args h = (both_true (all_variables d args) (all_apart (levels_of_args args)) h).0

@@ -3,7 +3,7 @@ use Rattle.std.proofs.Common.{◌≡◌, ◌≢◌, ℕ, ◌+◌, ◌-◌, ◌<�
 use Rattle.std.proofs.Math.ListN.{drop_of_length-le}
 use Rattle.std.proofs.lemmas.Bool.Decides.{nat_tests}
 use Rattle.mp_term.specs.declared.term.Bound.{Bound}
-use Rattle.mp_term.specs.Terms.{in_scope_of, at_scope}
+use Rattle.mp_term.specs.Terms.{in_scope_of, all_at_scope}
 use Rattle.mp_term.proofs.Layers.{scoped_bound, scoped_bound-is}
 use Rattle.mp_subst.specs.Subst.{widest_of, widest_at, width_bound}
 use Rattle.mp_subst.proofs.Layers.{width_bound-is}
@@ -35,7 +35,7 @@ levels-under place scope k h =
 pub record Walked (place : Place) (scope : ℕ) (subs : List PBound) (bodies : List Bound) (start now : Found) (i : ℕ) : Type 0 where
   pub fine : IsTrue (all_fine (length place.named + (scope - place.next)) (map seen_bound (drop i subs)))
   pub known : IsTrue (all_pass (map (lists_known_bound (names_of place.ctxs)) (drop i subs)))
-  pub scoped : IsTrue (at_scope scope (map scoped_bound (drop i bodies)))
+  pub scoped : IsTrue (all_at_scope scope (map scoped_bound (drop i bodies)))
   pub narrow : widest_at scope (map width_bound (drop i bodies)) < 2 ^ 31
   pub same : all_found (map (matcher_bound (ground_of place)) (drop i subs)) (levels_at place scope) scope (drop i bodies) now
       ≡ all_found (map (matcher_bound (ground_of place)) subs) (levels_at place scope) scope bodies start
@@ -63,8 +63,8 @@ module _ (place : Place) (scope : ℕ) (subs : List PBound) (bodies : List Bound
     known_both : IsTrue (lists_known_bound (names_of place.ctxs) b) × IsTrue (all_pass (map (lists_known_bound (names_of place.ctxs)) (drop (i + 1) subs)))
     known_both = both_true (lists_known_bound (names_of place.ctxs) b) (all_pass (map (lists_known_bound (names_of place.ctxs)) (drop (i + 1) subs))) (rw next_sub at w.known)
 
-    scoped_both : IsTrue (scoped_bound x scope) × IsTrue (at_scope scope (map scoped_bound (drop (i + 1) bodies)))
-    scoped_both = both_true (scoped_bound x scope) (at_scope scope (map scoped_bound (drop (i + 1) bodies))) (rw next_body at w.scoped)
+    scoped_both : IsTrue (scoped_bound x scope) × IsTrue (all_at_scope scope (map scoped_bound (drop (i + 1) bodies)))
+    scoped_both = both_true (scoped_bound x scope) (all_at_scope scope (map scoped_bound (drop (i + 1) bodies))) (rw next_body at w.scoped)
 
     pub here_fine : (inner : ℕ) → place.next ≤ scope → inner ≡ scope + b.binders → IsTrue ((seen b.body).fine (length place.named + (inner - place.next)))
     here_fine inner outer is =

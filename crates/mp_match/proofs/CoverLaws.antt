@@ -16,7 +16,7 @@ use Rattle.mp_schema.specs.declared.pattern.Pattern as pat
 use Rattle.mp_schema.specs.declared.pattern.PBound.{PBound}
 use Rattle.mp_schema.specs.Induction.{OfEachBody, OfEachArg, each_pattern}
 use Rattle.mp_schema.specs.Instances.{Ground, upto, all_pass}
-use Rattle.mp_schema.specs.Conditions.{Seen, seen, seen_bound, is_variable, all_variables, all_fine}
+use Rattle.mp_schema.specs.Conditions.{Seen, seen, seen_bound, is_level_below, all_variables, all_fine}
 use Rattle.mp_schema.specs.Values.{find_meta, find_param}
 use Rattle.mp_schema.proofs.Layers.{seen-Op, seen-Meta, fine-Op, fine-Meta, fine_bound-is}
 use Rattle.mp_match.specs.declared.place.Found.{Found}
@@ -215,7 +215,7 @@ meta-brings name levels m t old = Brings-each (HasMeta name) old (unrenamed leve
 -- arguments that are variables have no names
 module _ (hm hp : Sym → Bool) (d : ℕ) where
   abbrev IsBare : Pattern → Type 0
-  IsBare a = is_variable d (seen a).level ≡ true → covered hm hp a ≡ true
+  IsBare a = is_level_below d (seen a).level ≡ true → covered hm hp a ≡ true
 
   bare_var : (l : ℕ) → IsBare (pat.Var l)
   bare_var l h = covered-Var hm hp l
@@ -232,7 +232,7 @@ module _ (hm hp : Sym → Bool) (d : ℕ) where
   pub args-covered : (args : List Pattern) → all_variables d (map seen args) ≡ true → all_pass (map (covered hm hp) args) ≡ true
   args-covered [] h = refl
   args-covered (a ∷ rest) h =
-      let k = both_true (is_variable d (seen a).level) (all_variables d (map seen rest)) h in
+      let k = both_true (is_level_below d (seen a).level) (all_variables d (map seen rest)) h in
       and_true (covered hm hp a) (all_pass (map (covered hm hp) rest)) (bare a k.0) (args-covered rest k.1)
 
 module _ (g : Ground) where

@@ -16,7 +16,7 @@ use Rattle.mp_subst.proofs.Renaming.{few_levels}
 use Rattle.mp_schema.specs.declared.instance.CtxVal.{CtxVal}
 use Rattle.mp_schema.specs.declared.instance.Inst.{Inst}
 use Rattle.mp_schema.specs.Instances.{upto}
-use Rattle.mp_schema.specs.Values.{find_meta, first_of, kept_of, body_or, variables_of}
+use Rattle.mp_schema.specs.Values.{find_meta, first_variable_of, kept_of, body_or, variables_of}
 use Rattle.mp_match.specs.Giving.{given_levels, with_value, given_to, IsGiven, NamesOnly}
 use Rattle.mp_match.specs.Places.{EndsBelow}
 use Rattle.mp_match.proofs.Ranges.{length-upto, get_or-upto}
@@ -44,11 +44,11 @@ widest-ge = each_term IsWide wide_var wide_op
 
 -- the contexts of a list end below what their variables are below
 range-ends : (ctxs : List CtxVal) (name : Sym) (n : ℕ) → Below n (range ctxs name) → 0 < length (kept_of ctxs name) →
-    first_of ctxs name + length (kept_of ctxs name) ≤ n
+    first_variable_of ctxs name + length (kept_of ctxs name) ≤ n
 range-ends ctxs name n b some =
-    let l = length-upto (first_of ctxs name) (length (kept_of ctxs name)) in
+    let l = length-upto (first_variable_of ctxs name) (length (kept_of ctxs name)) in
     let last = b (length (kept_of ctxs name) - 1) (omega (arith, l)) in
-    let e = rw (get_or-upto (first_of ctxs name) (length (kept_of ctxs name)) (length (kept_of ctxs name) - 1) 0 (omega arith)) at last in
+    let e = rw (get_or-upto (first_variable_of ctxs name) (length (kept_of ctxs name)) (length (kept_of ctxs name) - 1) 0 (omega arith)) at last in
     omega (arith, e)
 
 pub names-end : (ctxs : List CtxVal) (names : List Sym) (n m : ℕ) → n < m → All (λ l. l < n) (variables_of ctxs names) → All (EndsBelow ctxs m) names

@@ -13,7 +13,7 @@ use Rattle.mp_schema.specs.declared.schema.Item.TheVariants.{Ctx, Hyp}
 use Rattle.mp_schema.specs.Instances.{fits, all_pass, inst_of}
 use Rattle.mp_schema.specs.Sequents.{Instance, Spot, hyps_of, behind, item_fits, wide_of, ground_at}
 use Rattle.mp_schema.specs.Conditions.{Seen, seen, has, is_known, below, lists_known, item_placed, item_fine, all_placed}
-use Rattle.mp_schema.specs.Values.{find_ctx, first_of, first_or}
+use Rattle.mp_schema.specs.Values.{find_ctx, first_variable_of, first_or}
 use Rattle.mp_match.specs.declared.place.Walk.{Walk}
 use Rattle.mp_match.specs.declared.sizes.Sizes.{Sizes}
 use Rattle.mp_match.specs.Matching.{argument, found_in}
@@ -141,11 +141,11 @@ module _ (sizes : Sizes) (w : Walk) (laid : IsLaid w.place) (name : Sym) (names 
       pos = λ other h. elim (decided (nat_eq other.0 name.0)) [
         | inl same ↦
             let e = same_name other name same in
-            let first : first_of more other ≡ w.place.next = rw (e, at_new) refl in
+            let first : first_variable_of more other ≡ w.place.next = rw (e, at_new) refl in
             rw (same, first) at.next
         | inr apart ↦
             let apart' : nat_eq name.0 other.0 ≡ false = grind (arith, nat_tests, apart) in
-            let e : first_of more other ≡ first_of w.place.ctxs other = ap first_or (ctx-other w.place.ctxs value other apart') in
+            let e : first_variable_of more other ≡ first_variable_of w.place.ctxs other = ap first_or (ctx-other w.place.ctxs value other apart') in
             let h' = rw (names-append w.place.ctxs value) at h in
             let old : has (names_of w.place.ctxs) other ≡ true = grind (arith, apart', h') in
             rw (apart, e) (at.pos other old)

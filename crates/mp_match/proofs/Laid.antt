@@ -6,7 +6,7 @@ use Rattle.mp_term.specs.declared.term.Term.{Term}
 use Rattle.mp_schema.specs.declared.instance.CtxVal.{CtxVal}
 use Rattle.mp_schema.specs.Instances.{upto}
 use Rattle.mp_schema.specs.Conditions.{has, has_all, is_apart, is_known}
-use Rattle.mp_schema.specs.Values.{find_ctx, kept_of, first_of, variables_of}
+use Rattle.mp_schema.specs.Values.{find_ctx, kept_of, first_variable_of, variables_of}
 use Rattle.mp_match.specs.declared.place.Place.{Place}
 use Rattle.mp_match.specs.Places.{names_of, ground_of, IsUsable}
 use Rattle.mp_match.specs.Walks.{past_named, past_context}
@@ -109,12 +109,12 @@ ctx-some xs name h = some_ctx xs name (find_ctx xs name) refl h
 
 -- the variables of a context
 abbrev pub range : List CtxVal → Sym → List ℕ
-range ctxs name = upto (first_of ctxs name) (length (kept_of ctxs name))
+range ctxs name = upto (first_variable_of ctxs name) (length (kept_of ctxs name))
 
 -- the contexts and the named hypotheses before a place lie apart, below it
 pub record IsLaid (place : Place) : Type 0 where
   pub ambient : place.ambient ≡ 0
-  pub ends : (name : Sym) → first_of place.ctxs name + length (kept_of place.ctxs name) ≤ place.next
+  pub ends : (name : Sym) → first_variable_of place.ctxs name + length (kept_of place.ctxs name) ≤ place.next
   pub named_below : Below place.next place.named
   pub named_apart : Apart place.named
   pub contexts_apart : (a b : Sym) → has (names_of place.ctxs) a ≡ true → has (names_of place.ctxs) b ≡ true → nat_eq a.0 b.0 ≡ false →
@@ -134,8 +134,8 @@ module _ (place : Place) (laid : IsLaid place) where
   range-below : (name : Sym) → Below place.next (range place.ctxs name)
   range-below name =
       let e = laid.ends name in
-      Below-more (first_of place.ctxs name + length (kept_of place.ctxs name)) place.next (range place.ctxs name) (omega (arith, e))
-      (Below-upto (first_of place.ctxs name) (length (kept_of place.ctxs name)))
+      Below-more (first_variable_of place.ctxs name + length (kept_of place.ctxs name)) place.next (range place.ctxs name) (omega (arith, e))
+      (Below-upto (first_variable_of place.ctxs name) (length (kept_of place.ctxs name)))
 
   not_true : (b : Bool) → not b ≡ true → b ≡ false
   not_true true h = absurd (cc)
@@ -163,7 +163,7 @@ module _ (place : Place) (laid : IsLaid place) where
   variables-apart (a ∷ names) h apart =
       let k = both_true (has (names_of place.ctxs) a) (has_all (names_of place.ctxs) names) h in
       let d = both_true (not (has names a)) (is_apart names) apart in
-      Apart-append (range place.ctxs a) (variables_of place.ctxs names) (Apart-upto (first_of place.ctxs a) (length (kept_of place.ctxs a)))
+      Apart-append (range place.ctxs a) (variables_of place.ctxs names) (Apart-upto (first_variable_of place.ctxs a) (length (kept_of place.ctxs a)))
       (variables-apart names k.1 d.1) (others a names k.0 k.1 (not_true (has names a) d.0))
 
   variables-below : (names : List Sym) → Below place.next (variables_of place.ctxs names)
@@ -235,7 +235,7 @@ module _ (place : Place) (laid : IsLaid place) where
     has-old : (a : Sym) → nat_eq name.0 a.0 ≡ false → has (names_of more) a ≡ true → has (names_of place.ctxs) a ≡ true
     has-old a h t = let e = rw (names-append place.ctxs value) at t in grind (arith, h, e)
 
-    ends-more : (a : Sym) → first_of more a + length (kept_of more a) ≤ place.next + length kept
+    ends-more : (a : Sym) → first_variable_of more a + length (kept_of more a) ≤ place.next + length kept
     ends-more a = elim (decided (nat_eq name.0 a.0)) [
       | inl h ↦ rw (at_same a h) (omega arith)
       | inr h ↦ let e = laid.ends a in rw (ctx-other place.ctxs value a h) (omega (arith, e))

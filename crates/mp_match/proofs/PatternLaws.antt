@@ -8,7 +8,7 @@ use Rattle.mp_term.specs.declared.term.Param.{Param}
 use Rattle.mp_term.specs.declared.term.Term.{Term, Term-F, Var, Op, out-Term}
 use Rattle.mp_term.specs.declared.term.Term.TheOpen as term_layer
 use Rattle.mp_term.specs.declared.term.Bound.{Bound}
-use Rattle.mp_term.specs.Terms.{in_scope_of, at_scope}
+use Rattle.mp_term.specs.Terms.{in_scope_of, all_at_scope}
 use Rattle.mp_term.proofs.Layers.{in_scope-Op, scoped_bound, scoped_bound-is}
 use Rattle.mp_subst.specs.Subst.{sub_of, variables, unrenamed}
 use Rattle.mp_schema.specs.declared.instance.MetaVal.{MetaVal}
@@ -19,7 +19,7 @@ use Rattle.mp_schema.specs.declared.pattern.Pattern as pat
 use Rattle.mp_schema.specs.declared.pattern.PBound.{PBound}
 use Rattle.mp_schema.specs.Induction.{OfEachBody, OfEachArg, each_pattern}
 use Rattle.mp_schema.specs.Instances.{Values, Ground, upto, made_each, param_of, inst_of, inst_bound, all_pass, fits, fits_bound}
-use Rattle.mp_schema.specs.Conditions.{Seen, seen, seen_bound, is_variable, all_variables, all_fine, args_fine, is_known, lists_known, lists_known_bound}
+use Rattle.mp_schema.specs.Conditions.{Seen, seen, seen_bound, is_level_below, all_variables, all_fine, args_fine, is_known, lists_known, lists_known_bound}
 use Rattle.mp_schema.specs.Values.{find_meta, find_param}
 use Rattle.mp_schema.proofs.Layers.{inst-Var, inst-Op, inst-Meta, inst_bound-is, fits-Var, fits-Op, fits-Meta, fits_bound-is, seen-Var, seen-Op, seen-Meta, fine-Var, fine-Op, fine-Meta, fine_bound-is, lists_known-Op, lists_known-Meta, lists_known_bound-is}
 use Rattle.mp_match.specs.declared.place.Found.{Found}
@@ -95,7 +95,7 @@ level-same l t e = sym (same-Var l t) ∙ rw (sym e) (term-refl (Var l))
 
 module _ (g : Ground) (v : Values) (levels : List ℕ) (m : ℕ) where
   abbrev IsRead : Pattern → Type 0
-  IsRead a = is_variable (length levels) (seen a).level ≡ true → inst_of g v a (map Var levels) m ≡ Var (argument levels (seen a).level)
+  IsRead a = is_level_below (length levels) (seen a).level ≡ true → inst_of g v a (map Var levels) m ≡ Var (argument levels (seen a).level)
 
   read_var : (l : ℕ) → IsRead (pat.Var l)
   read_var l h =
@@ -117,12 +117,12 @@ module _ (g : Ground) (v : Values) (levels : List ℕ) (m : ℕ) where
       made_each (map (inst_of g v) args) (map Var levels) m ≡ map Var (map (λ (a : Seen). argument levels a.level) (map seen args))
   args-made [] h = refl
   args-made (a ∷ rest) h =
-      let k = both_true (is_variable (length levels) (seen a).level) (all_variables (length levels) (map seen rest)) h in
+      let k = both_true (is_level_below (length levels) (seen a).level) (all_variables (length levels) (map seen rest)) h in
       rw (read a k.0, args-made rest k.1) refl
 
 module _ (w : List Sym → ℕ) (v : Values) (d : ℕ) where
   abbrev IsFit : Pattern → Type 0
-  IsFit a = is_variable d (seen a).level ≡ true → fits w v a ≡ true
+  IsFit a = is_level_below d (seen a).level ≡ true → fits w v a ≡ true
 
   fit_var : (l : ℕ) → IsFit (pat.Var l)
   fit_var l h = fits-Var w v l
@@ -139,7 +139,7 @@ module _ (w : List Sym → ℕ) (v : Values) (d : ℕ) where
   pub args-fit : (args : List Pattern) → all_variables d (map seen args) ≡ true → all_pass (map (fits w v) args) ≡ true
   args-fit [] h = refl
   args-fit (a ∷ rest) h =
-      let k = both_true (is_variable d (seen a).level) (all_variables d (map seen rest)) h in
+      let k = both_true (is_level_below d (seen a).level) (all_variables d (map seen rest)) h in
       and_true (fits w v a) (all_pass (map (fits w v) rest)) (fit a k.0) (args-fit rest k.1)
 
 -- ## Patterns
@@ -271,14 +271,14 @@ module _ (g : Ground) (known : List Sym) where
 
   solved_subs : (subs : List PBound) (xs : List Bound) (levels : List ℕ) (m : ℕ) (old : Found) → OfEachBody IsSolved subs →
       all_fine (length levels) (map seen_bound subs) ≡ true → all_pass (map (lists_known_bound known) subs) ≡ true → Usable g known levels m →
-      at_scope m (map scoped_bound xs) ≡ true → Solves (AsksEach subs levels m xs) old (all_found (map (matcher_bound g) subs) levels m xs old)
+      all_at_scope m (map scoped_bound xs) ≡ true → Solves (AsksEach subs levels m xs) old (all_found (map (matcher_bound g) subs) levels m xs old)
   solved_subs [] [] levels m old ih fine lists usable scoped = Solves-same (AsksEach [] levels m []) old (λ v _. (refl, refl))
   solved_subs [] (x ∷ xs) levels m old ih fine lists usable scoped = Solves-none (AsksEach [] levels m (x ∷ xs)) old (λ v h. let e = h.1 in absurd (cc))
   solved_subs (b ∷ subs) [] levels m old ih fine lists usable scoped = Solves-none (AsksEach (b ∷ subs) levels m []) old (λ v h. let e = h.1 in absurd (cc))
   solved_subs (b ∷ subs) (x ∷ xs) levels m old ih fine lists usable scoped =
       let f = both_true ((seen_bound b).fine (length levels)) (all_fine (length levels) (map seen_bound subs)) fine in
       let l = both_true (lists_known_bound known b) (all_pass (map (lists_known_bound known) subs)) lists in
-      let s = both_true (scoped_bound x m) (at_scope m (map scoped_bound xs)) scoped in
+      let s = both_true (scoped_bound x m) (all_at_scope m (map scoped_bound xs)) scoped in
       Solves-as (λ v. AsksBound b levels m x v × AsksEach subs levels m xs v) (AsksEach (b ∷ subs) levels m (x ∷ xs)) old
       (all_found (map (matcher_bound g) (b ∷ subs)) levels m (x ∷ xs) old)
       (λ v h. (and_true (fits_bound width v b) (all_pass (map (fits_bound width v) subs)) h.0.0 h.1.0, rw (h.0.1, h.1.1) refl))

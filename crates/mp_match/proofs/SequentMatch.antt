@@ -15,7 +15,7 @@ use Rattle.mp_schema.specs.declared.schema.Item.TheVariants.{Ctx, Hyp}
 use Rattle.mp_schema.specs.declared.schema.Schema.{Schema}
 use Rattle.mp_schema.specs.Instances.{fits}
 use Rattle.mp_schema.specs.Sequents.{Instance, Spot, first_spot, hyps_of, hyps_from, behind, behind_all, concl_at, item_fits, wide_of}
-use Rattle.mp_schema.specs.Conditions.{Before, past, past_all, nothing_before, has, names_in, is_conclusion, has_two_contexts}
+use Rattle.mp_schema.specs.Conditions.{Before, past, past_all, nothing_before, has, contexts_among, is_conclusion, has_two_contexts}
 use Rattle.mp_schema.specs.Values.{kept_or, instance_of}
 use Rattle.mp_match.specs.declared.place.Found.{Found}
 use Rattle.mp_match.specs.declared.place.Walk.{Walk}
@@ -43,7 +43,7 @@ abbrev kept_total : Instance → List Sym → ℕ
 kept_total v [] = 0
 kept_total v (c ∷ names) = length (v.kept c) + kept_total v names
 
-made-length : (v : Instance) (is : List Item) (l : Spot) → length (hyps_from v is l) ≡ named_in is + kept_total v (names_in is)
+made-length : (v : Instance) (is : List Item) (l : Spot) → length (hyps_from v is l) ≡ named_in is + kept_total v (contexts_among is)
 made-length v [] l = refl
 made-length v (Hyp p ∷ is) l =
     let a = length-append (hyps_of v (Hyp p) l) (hyps_from v is (behind v (Hyp p) l)) in
@@ -70,11 +70,11 @@ shared-by v (c ∷ d ∷ []) (Some first) left g has-first e =
     rw le (record { first = first; later = left - first }, refl, (one, (omega (arith, e, one), tt)))
 shared-by v (c ∷ d ∷ x ∷ names) (Some first) left g has-first e = absurd (let le = g.0 in omega (arith, le))
 
-sizes-by : (v : Instance) (items : List Item) (first : Option ℕ) (hyps : ℕ) → GivenTwo (length (names_in items)) first →
-    ((k : ℕ) → first ≡ Some k → FirstHas v (names_in items) k) → hyps ≡ named_in items + kept_total v (names_in items) → Shares v (names_in items) (sizes_of items first hyps)
+sizes-by : (v : Instance) (items : List Item) (first : Option ℕ) (hyps : ℕ) → GivenTwo (length (contexts_among items)) first →
+    ((k : ℕ) → first ≡ Some k → FirstHas v (contexts_among items) k) → hyps ≡ named_in items + kept_total v (contexts_among items) → Shares v (contexts_among items) (sizes_of items first hyps)
 sizes-by v items first hyps g has-first e =
     let le : nat_lt hyps (named_in items) ≡ false = grind (arith, nat_tests, e) in
-    rw le (shared-by v (names_in items) first (hyps - named_in items) g has-first (omega (arith, e)))
+    rw le (shared-by v (contexts_among items) first (hyps - named_in items) g has-first (omega (arith, e)))
 
 shared-first : (c : Sym) (names : List Sym) (first left : ℕ) (sizes : Sizes) → shared (c ∷ names) (Some first) left ≡ Some sizes → sizes.first ≡ first
 shared-first c names first left sizes e = elim (decided (nat_lt left first)) [
@@ -88,14 +88,14 @@ sized-first v [] first left sizes e h = tt
 sized-first v (c ∷ names) first left sizes e h = h.0 ∙ shared-first c names first left sizes e
 
 has-first-of : (v : Instance) (s : Schema) (first : Option ℕ) (hyps : ℕ) (sizes : Sizes) → sizes_of s.items first hyps ≡ Some sizes →
-    IsSized v (names_in s.items) sizes.first sizes.later → HasFirst v s first
+    IsSized v (contexts_among s.items) sizes.first sizes.later → HasFirst v s first
 has-first-of v s None hyps sizes e h = tt
 has-first-of v s (Some first) hyps sizes e h = elim (decided (nat_lt hyps (named_in s.items))) [
   | inl less ↦ absurd (let k = rw less at e in cc)
-  | inr more ↦ let k = rw more at e in sized-first v (names_in s.items) first (hyps - named_in s.items) sizes k h
+  | inr more ↦ let k = rw more at e in sized-first v (contexts_among s.items) first (hyps - named_in s.items) sizes k h
 ]
 
-has-first-at : (v : Instance) (s : Schema) (first : Option ℕ) → HasFirst v s first → (k : ℕ) → first ≡ Some k → FirstHas v (names_in s.items) k
+has-first-at : (v : Instance) (s : Schema) (first : Option ℕ) → HasFirst v s first → (k : ℕ) → first ≡ Some k → FirstHas v (contexts_among s.items) k
 has-first-at v s None h k e = absurd (cc)
 has-first-at v s (Some n) h k e = let is : n ≡ k = cc in rw (← is) h
 
@@ -106,7 +106,7 @@ or_true true b h = refl
 or_true false b (inl h) = absurd (cc)
 or_true false b (inr h) = h
 
-past-has : (is : List Item) (b : Before) (name : Sym) → (has b.contexts name ≡ true) ⊎ (has (names_in is) name ≡ true) → has (past_all is b).contexts name ≡ true
+past-has : (is : List Item) (b : Before) (name : Sym) → (has b.contexts name ≡ true) ⊎ (has (contexts_among is) name ≡ true) → has (past_all is b).contexts name ≡ true
 past-has [] b name (inl h) = h
 past-has [] b name (inr h) = absurd (cc)
 past-has (Hyp p ∷ is) b name h = past-has is (past (Hyp p) b) name h
@@ -126,7 +126,7 @@ nothing-tied v = record { meets = meets_nothing v.values; ctxs = λ name x e. ab
 
 module _ (s : Schema) (first : Option ℕ) (goal : Sequent) (conclusion : IsTrue (is_conclusion s)) (two : IsSome first ↔ IsTrue (has_two_contexts s))
     (scoped : IsTrue (sequent_in_scope_of goal)) (narrow : widest_in_sequent goal < 2 ^ 31) where
-  given : GivenTwo (length (names_in s.items)) first
+  given : GivenTwo (length (contexts_among s.items)) first
   given = given-two s first conclusion two
 
   module _ (sizes : Sizes) (shares : sizes_of s.items first (length goal.hyps) ≡ Some sizes) where

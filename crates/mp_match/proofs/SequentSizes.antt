@@ -5,7 +5,7 @@ use Rattle.mp_logic.specs.declared.sym.Sym.{Sym}
 use Rattle.mp_schema.specs.declared.schema.Item.{Item}
 use Rattle.mp_schema.specs.declared.schema.Item.TheVariants.{Ctx, Hyp}
 use Rattle.mp_schema.specs.declared.schema.Schema.{Schema}
-use Rattle.mp_schema.specs.Conditions.{names_in, context_names, has_two_contexts, is_conclusion, is_placed, is_fine, is_framed}
+use Rattle.mp_schema.specs.Conditions.{contexts_among, context_names, has_two_contexts, is_conclusion, is_placed, is_fine, is_framed}
 use Rattle.mp_match.specs.declared.sizes.Sizes.{Sizes}
 use Rattle.mp_match.specs.Walks.{named_in, shared, sizes_of, needed}
 use Rattle.mp_match.proofs.Equal.{both_true, decided}
@@ -15,7 +15,7 @@ abbrev spent : ℕ → ℕ → ℕ → ℕ
 spent zero a b = 0
 spent (suc k) a b = a + spent k b b
 
-needed-is : (items : List Item) (a b : ℕ) → needed items a b ≡ named_in items + spent (length (names_in items)) a b
+needed-is : (items : List Item) (a b : ℕ) → needed items a b ≡ named_in items + spent (length (contexts_among items)) a b
 needed-is [] a b = refl
 needed-is (Hyp p ∷ is) a b = let e = needed-is is a b in omega (arith, e)
 needed-is (Ctx name names args ∷ is) a b = let e = needed-is is b b in omega (arith, e)
@@ -45,14 +45,14 @@ shared-spent (c ∷ d ∷ []) (Some first) left sizes g e = elim (decided (nat_l
 ]
 shared-spent (c ∷ d ∷ x ∷ names) (Some first) left sizes g e = absurd (let le = g.0 in omega (arith, le))
 
-pub sizes-counted : (items : List Item) (first : Option ℕ) (hyps : ℕ) (sizes : Sizes) → GivenTwo (length (names_in items)) first → sizes_of items first hyps ≡ Some sizes →
+pub sizes-counted : (items : List Item) (first : Option ℕ) (hyps : ℕ) (sizes : Sizes) → GivenTwo (length (contexts_among items)) first → sizes_of items first hyps ≡ Some sizes →
     needed items sizes.first sizes.later ≡ hyps
 sizes-counted items first hyps sizes g e = elim (decided (nat_lt hyps (named_in items))) [
   | inl less ↦ absurd (let k = rw less at e in cc)
   | inr more ↦
       let k = rw more at e in
       let le : named_in items ≤ hyps = grind (arith, nat_tests, more) in
-      let s = shared-spent (names_in items) first (hyps - named_in items) sizes g k in
+      let s = shared-spent (contexts_among items) first (hyps - named_in items) sizes g k in
       needed-is items sizes.first sizes.later ∙ omega (arith, s, le)
 ]
 

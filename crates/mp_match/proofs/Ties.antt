@@ -8,9 +8,10 @@ use Rattle.mp_term.specs.Terms.{in_scope_of}
 use Rattle.mp_schema.specs.declared.instance.CtxVal.{CtxVal}
 use Rattle.mp_schema.specs.declared.pattern.Pattern.{Pattern}
 use Rattle.mp_schema.specs.Instances.{upto, inst_of, fits}
-use Rattle.mp_schema.specs.Sequents.{Instance, Spot, joined, ground_at, wide_of}
+use Rattle.mp_schema.specs.Sequents.{Instance, Spot, ground_at, wide_of}
+use Rattle.mp_logic.specs.Lists.{joined}
 use Rattle.mp_schema.specs.Conditions.{seen, has, has_all, is_apart, is_known, lists_known}
-use Rattle.mp_schema.specs.Values.{find_ctx, kept_of, first_of, kept_or, variables_of}
+use Rattle.mp_schema.specs.Values.{find_ctx, kept_of, first_variable_of, kept_or, variables_of}
 use Rattle.mp_match.specs.declared.place.Found.{Found}
 use Rattle.mp_match.specs.declared.place.Place.{Place}
 use Rattle.mp_match.specs.Matching.{found_in}
@@ -30,7 +31,7 @@ HasContexts v place = (name : Sym) (x : CtxVal) → find_ctx place.ctxs name ≡
 pub record At (l : Spot) (place : Place) : Type 0 where
   pub next : l.next ≡ place.next
   pub env : l.env ≡ place.named
-  pub pos : (name : Sym) → has (names_of place.ctxs) name ≡ true → l.pos name ≡ first_of place.ctxs name
+  pub pos : (name : Sym) → has (names_of place.ctxs) name ≡ true → l.pos name ≡ first_variable_of place.ctxs name
 
 -- the widths are those of the lists
 pub wide-ground : (v : Instance) (pos : Sym → ℕ) (names : List Sym) → length (ground_at v pos names) ≡ wide_of v names
@@ -46,7 +47,7 @@ wide-ground v pos names = length-append (upto 0 v.ambient) (joined (map (λ c. u
           grind (arith, common_steps, a, b, r)
 
 module _ (v : Instance) (l : Spot) (place : Place) (ambient : v.ambient ≡ 0) (laid : IsLaid place) (has-them : HasContexts v place) (at : At l place) where
-  range-same : (c : Sym) → has (names_of place.ctxs) c ≡ true → upto (l.pos c) (length (v.kept c)) ≡ upto (first_of place.ctxs c) (length (kept_of place.ctxs c))
+  range-same : (c : Sym) → has (names_of place.ctxs) c ≡ true → upto (l.pos c) (length (v.kept c)) ≡ upto (first_variable_of place.ctxs c) (length (kept_of place.ctxs c))
   range-same c h =
       let s = ctx-some place.ctxs c h in
       let kept : kept_of place.ctxs c ≡ v.kept c = ap kept_or s.1 ∙ sym (has-them c s.0 s.1) in

@@ -11,7 +11,7 @@ use Rattle.mp_schema.specs.declared.pattern.Pattern.{Pattern}
 use Rattle.mp_schema.specs.declared.schema.Item.{Item}
 use Rattle.mp_schema.specs.declared.schema.Item.TheVariants.{Ctx, Hyp}
 use Rattle.mp_schema.specs.Sequents.{Instance, Spot, first_spot, telescope, hyps_of, hyps_from, behind, behind_all, item_fits}
-use Rattle.mp_schema.specs.Conditions.{past, each_item, item_placed, item_fine, names_in}
+use Rattle.mp_schema.specs.Conditions.{past, each_item, item_placed, item_fine, contexts_among}
 use Rattle.mp_match.specs.declared.place.Place.{Place}
 use Rattle.mp_match.specs.declared.place.Walk.{Walk}
 use Rattle.mp_match.specs.declared.sizes.Sizes.{Sizes}
@@ -120,9 +120,9 @@ module _ (sizes : Sizes) (hyps : List Term) (v : Instance) (ambient : v.ambient 
 
   -- the sizes of what is left
   size-next : (i : Item) (is : List Item) (w m : Walk) (l : Spot) → item_found sizes i (drop w.place.next hyps) w ≡ Some m →
-      IsSized v (names_in (i ∷ is)) (size_after sizes w.place.ctxs) sizes.later → IsSized v (names_in is) (size_after sizes m.place.ctxs) sizes.later
+      IsSized v (contexts_among (i ∷ is)) (size_after sizes w.place.ctxs) sizes.later → IsSized v (contexts_among is) (size_after sizes m.place.ctxs) sizes.later
   size-next (Hyp p) is w m l e h = named (drop w.place.next hyps) e where
-    named : (ts : List Term) → item_found sizes (Hyp p) ts w ≡ Some m → IsSized v (names_in is) (size_after sizes m.place.ctxs) sizes.later
+    named : (ts : List Term) → item_found sizes (Hyp p) ts w ≡ Some m → IsSized v (contexts_among is) (size_after sizes m.place.ctxs) sizes.later
     named [] e = absurd (cc)
     named (t ∷ ts) e = let k = hyp-result sizes hyps p t w m e in rw k.2 h
   size-next (Ctx name names args) is w m l e h =
@@ -130,7 +130,7 @@ module _ (sizes : Sizes) (hyps : List Term) (v : Instance) (ambient : v.ambient 
       let x : CtxVal = record { name = name; first = w.place.next; hyps = k.0 } in
       rw (k.2, size_after-more sizes w.place.ctxs x) h.1
 
-  size-here : (i : Item) (is : List Item) (w : Walk) (l : Spot) → IsSized v (names_in (i ∷ is)) (size_after sizes w.place.ctxs) sizes.later →
+  size-here : (i : Item) (is : List Item) (w : Walk) (l : Spot) → IsSized v (contexts_among (i ∷ is)) (size_after sizes w.place.ctxs) sizes.later →
       length (hyps_of v i l) ≡ taken sizes i w.place.ctxs
   size-here (Hyp p) is w l h = refl
   size-here (Ctx name names args) is w l h = telescope-length v l names args l.next 0 (v.kept name) ∙ h.0
@@ -139,7 +139,7 @@ module _ (sizes : Sizes) (hyps : List Term) (v : Instance) (ambient : v.ambient 
   CompleteAll is w l = (w' : Walk) × (items_found sizes hyps is w ≡ Some w') × Tied v w' × At (behind_all v is l) w'.place
 
   pub items-complete : (is : List Item) (w : Walk) (l : Spot) → Ready sizes hyps is w.place → Tied v w → At l w.place → IsTrue (list_all (item_fits v) is) →
-      IsSized v (names_in is) (size_after sizes w.place.ctxs) sizes.later → hyps_from v is l ≡ drop w.place.next hyps → CompleteAll is w l
+      IsSized v (contexts_among is) (size_after sizes w.place.ctxs) sizes.later → hyps_from v is l ≡ drop w.place.next hyps → CompleteAll is w l
   items-complete [] w l r tied at fit sized same = (w, refl, tied, at)
   items-complete (i ∷ is) w l r tied at fit sized same =
       let f = both_true (item_fits v i) (list_all (item_fits v) is) fit in
@@ -155,9 +155,9 @@ module _ (sizes : Sizes) (hyps : List Term) (v : Instance) (ambient : v.ambient 
       (more.0, rw m.1 more.1, more.2, more.3)
 
   size-back : (i : Item) (is : List Item) (w m : Walk) → Ready sizes hyps (i ∷ is) w.place → item_found sizes i (drop w.place.next hyps) w ≡ Some m → Tied v m →
-      IsSized v (names_in is) (size_after sizes m.place.ctxs) sizes.later → IsSized v (names_in (i ∷ is)) (size_after sizes w.place.ctxs) sizes.later
+      IsSized v (contexts_among is) (size_after sizes m.place.ctxs) sizes.later → IsSized v (contexts_among (i ∷ is)) (size_after sizes w.place.ctxs) sizes.later
   size-back (Hyp p) is w m r e tied h = named (drop w.place.next hyps) e where
-    named : (ts : List Term) → item_found sizes (Hyp p) ts w ≡ Some m → IsSized v (names_in is) (size_after sizes w.place.ctxs) sizes.later
+    named : (ts : List Term) → item_found sizes (Hyp p) ts w ≡ Some m → IsSized v (contexts_among is) (size_after sizes w.place.ctxs) sizes.later
     named [] e = absurd (cc)
     named (t ∷ ts) e = let k = hyp-result sizes hyps p t w m e in rw k.2 at h
   size-back (Ctx name names args) is w m r e tied h =
@@ -172,7 +172,7 @@ module _ (sizes : Sizes) (hyps : List Term) (v : Instance) (ambient : v.ambient 
 
   -- the contexts have the sizes that they were given
   pub items-sized : (is : List Item) (w w' : Walk) → Ready sizes hyps is w.place → items_found sizes hyps is w ≡ Some w' → w'.place.next ≡ length hyps → Tied v w' →
-      IsSized v (names_in is) (size_after sizes w.place.ctxs) sizes.later
+      IsSized v (contexts_among is) (size_after sizes w.place.ctxs) sizes.later
   items-sized [] w w' r e end tied = tt
   items-sized (i ∷ is) w w' r e end tied =
       option_and_then_some (items_found sizes hyps is) (item_found sizes i (drop w.place.next hyps) w) w' e (λ m here k.

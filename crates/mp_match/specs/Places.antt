@@ -5,7 +5,7 @@ use Rattle.mp_logic.specs.declared.sym.Sym.{Sym}
 use Rattle.mp_schema.specs.declared.instance.CtxVal.{CtxVal}
 use Rattle.mp_schema.specs.Instances.{Ground, upto}
 use Rattle.mp_schema.specs.Conditions.{Before, is_known}
-use Rattle.mp_schema.specs.Values.{variables_of, kept_of, first_of}
+use Rattle.mp_schema.specs.Values.{variables_of, kept_of, first_variable_of}
 use Rattle.mp_match.specs.declared.place.Place.{Place}
 
 -- the names of the contexts, the last one first
@@ -27,10 +27,10 @@ levels_at place scope = place.named ++ upto place.next (scope - place.next)
 
 -- the context of this name has no variables, or ends below the number
 abbrev pub EndsBelow : List CtxVal → ℕ → Sym → Type 0
-EndsBelow ctxs n name = 0 < length (kept_of ctxs name) → first_of ctxs name + length (kept_of ctxs name) < n
+EndsBelow ctxs n name = 0 < length (kept_of ctxs name) → first_variable_of ctxs name + length (kept_of ctxs name) < n
 
 -- each variable of the ambient scope, of the contexts and of the named hypotheses is another one, below the place's scope
 pub record IsUsable (place : Place) : Type 0 where
-  pub ends : (name : Sym) → first_of place.ctxs name + length (kept_of place.ctxs name) ≤ place.next
+  pub ends : (name : Sym) → first_variable_of place.ctxs name + length (kept_of place.ctxs name) ≤ place.next
   pub distinct : (names : List Sym) → IsTrue (is_known (names_of place.ctxs) names) → IsDistinct nat_eq (ground_of place names ++ place.named)
   pub below : (names : List Sym) → IsTrue (is_known (names_of place.ctxs) names) → All (λ l. l < place.next) (ground_of place names ++ place.named)

@@ -12,7 +12,7 @@ use Rattle.mp_schema.specs.declared.schema.Schema.{Schema}
 use Rattle.mp_schema.specs.Instances.{Ground, upto, inst_of, fits}
 use Rattle.mp_schema.specs.Conditions.{has, context_names}
 use Rattle.mp_schema.specs.Sequents.{Instance, first_spot, behind_all, seq, schema_fits}
-use Rattle.mp_schema.specs.Values.{find_meta, find_param, find_ctx, first_of, instance_of}
+use Rattle.mp_schema.specs.Values.{find_meta, find_param, find_ctx, first_variable_of, instance_of}
 
 -- the instance has the values that are found
 pub record Agrees (v : Instance) (i : Inst) : Type 0 where
@@ -42,7 +42,7 @@ pub record GivesGoal (s : Schema) (first : Option ℕ) (goal : Sequent) (v : Ins
 
 -- each context's first variable is at the level at which the context begins
 abbrev pub Begins : Inst → Schema → Type 0
-Begins i s = (name : Sym) → IsTrue (has (context_names s) name) → first_of i.ctxs name ≡ (behind_all (instance_of i) s.items first_spot).pos name
+Begins i s = (name : Sym) → IsTrue (has (context_names s) name) → first_variable_of i.ctxs name ≡ (behind_all (instance_of i) s.items first_spot).pos name
 
 -- the values of an instance that makes the schema this goal, which are those of every such instance; None where there is
 -- none

@@ -11,7 +11,7 @@ use Rattle.mp_schema.specs.declared.pattern.Pattern.{Pattern}
 use Rattle.mp_schema.specs.declared.schema.Item.{Item}
 use Rattle.mp_schema.specs.declared.schema.Item.TheVariants.{Ctx, Hyp}
 use Rattle.mp_schema.specs.declared.schema.Schema.{Schema}
-use Rattle.mp_schema.specs.Conditions.{Seen, seen, names_in}
+use Rattle.mp_schema.specs.Conditions.{Seen, seen, contexts_among}
 use Rattle.mp_match.specs.declared.place.Found.{Found}
 use Rattle.mp_match.specs.declared.place.Place.{Place}
 use Rattle.mp_match.specs.declared.place.Walk.{Walk}
@@ -38,7 +38,7 @@ shared (c ∷ contexts) (Some first) left = if nat_lt left first then None else 
 
 -- the sizes of the contexts in a goal with so many hypotheses
 abbrev pub sizes_of : List Item → Option ℕ → ℕ → Option Sizes
-sizes_of items first hyps = if nat_lt hyps (named_in items) then None else shared (names_in items) first (hyps - named_in items)
+sizes_of items first hyps = if nat_lt hyps (named_in items) then None else shared (contexts_among items) first (hyps - named_in items)
 
 -- the size of the next context, after these
 abbrev pub size_after : Sizes → List CtxVal → ℕ

@@ -1,6 +1,6 @@
 ghost use Rattle.std.specs.Prelude.{◌≡◌, ◌+◌, ◌-◌, ◌<◌, ◌≤◌, ◌^◌, map, length, nat_eq, IsTrue, IfOk, All, if◌then◌else◌};
 ghost use Rattle.std.specs.List.{IsDistinct};
-ghost use Rattle.mp_term.specs.Terms.{in_scope_of, at_scope, Scoped, scope_step, scope_bound_step};
+ghost use Rattle.mp_term.specs.Terms.{in_scope_of, all_at_scope, ScopeTest, scope_step, scope_bound_step};
 ghost use Rattle.mp_term.specs.declared.term.Bound.{fold-Bound};
 ghost use Rattle.mp_subst.specs.Subst.{widest_of, widest_at, width_bound};
 ghost use Rattle.mp_schema.specs.Instances.{all_pass};
@@ -83,7 +83,7 @@ fn match_subs(
     requires fine { IsTrue (all_fine (length place.now.named + (scope - place.now.next)) (map seen_bound subs.now)) }
     requires known { IsTrue (all_pass (map (lists_known_bound (names_of place.now.ctxs)) subs.now)) }
     requires usable { IsUsable place.now }
-    requires scoped { IsTrue (at_scope scope (map (fold-Bound Scoped Scoped scope_step scope_bound_step) bodies.now)) }
+    requires scoped { IsTrue (all_at_scope scope (map (fold-Bound ScopeTest ScopeTest scope_step scope_bound_step) bodies.now)) }
     requires narrow { widest_at scope (map width_bound bodies.now) < 2 ^ 31 }
     ensures { IfOk result (λ same. (if same then Some found.new else None)
         ≡ all_found (map (matcher_bound (ground_of place.now)) subs.now) (levels_at place.now scope) scope bodies.now found.old) }

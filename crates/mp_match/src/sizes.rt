@@ -1,5 +1,5 @@
 ghost use Rattle.std.specs.Prelude.{◌≡◌, length};
-ghost use Rattle.mp_schema.specs.Conditions.{names_in};
+ghost use Rattle.mp_schema.specs.Conditions.{contexts_among};
 ghost use Rattle.mp_match.specs.Walks.{named_in, sizes_of, size_after};
 
 use mp_logic::List;
@@ -55,7 +55,7 @@ pub(crate) struct Counts {
 
 pub(crate) fn count_items(items: &List<Item>) -> Counts
     ensures named { result.named ≡ named_in items.now }
-    ensures contexts { result.contexts ≡ length (names_in items.now) }
+    ensures contexts { result.contexts ≡ length (contexts_among items.now) }
 {
     let mut counts = Counts {
         named: 0,

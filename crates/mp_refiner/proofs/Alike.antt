@@ -15,7 +15,7 @@ use Rattle.mp_schema.specs.declared.pattern.Pattern.{Pattern}
 use Rattle.mp_schema.specs.declared.schema.Item.{Item}
 use Rattle.mp_schema.specs.declared.schema.Item.TheVariants.{Ctx, Hyp}
 use Rattle.mp_schema.specs.declared.schema.Schema.{Schema}
-use Rattle.mp_schema.specs.Conditions.{Before, seen, below, past, past_all, nothing_before, each_item, item_placed, item_fine, args_fine, pattern_placed, all_placed, has, is_known, lists_known, names_in, context_names, has_two_contexts, is_conclusion}
+use Rattle.mp_schema.specs.Conditions.{Before, seen, below, past, past_all, nothing_before, each_item, item_placed, item_fine, args_fine, pattern_placed, all_placed, has, is_known, lists_known, contexts_among, context_names, has_two_contexts, is_conclusion}
 use Rattle.mp_schema.specs.Instances.{fits}
 use Rattle.mp_schema.specs.Occurrences.{Occurrence, occurrences_in, occurrences_in_item, occurrences_in_schema, holes_in, holes_in_item, holes_in_schema}
 use Rattle.mp_schema.specs.Sequents.{Instance, Spot, first_spot, wide_of, hyps_of, hyps_from, behind, behind_all, concl_at, item_fits}
@@ -78,7 +78,7 @@ abbrev kept_total : Instance → List Sym → ℕ
 kept_total v [] = 0
 kept_total v (c ∷ names) = length (v.kept c) + kept_total v names
 
-made_length : (v : Instance) (is : List Item) (l : Spot) → length (hyps_from v is l) ≡ named_in is + kept_total v (names_in is)
+made_length : (v : Instance) (is : List Item) (l : Spot) → length (hyps_from v is l) ≡ named_in is + kept_total v (contexts_among is)
 made_length v [] l = refl
 made_length v (Hyp p ∷ is) l =
     let a = length-append (hyps_of v (Hyp p) l) (hyps_from v is (behind v (Hyp p) l)) in
@@ -385,7 +385,7 @@ module _ (v w : Instance) (ambient_v : v.ambient ≡ 0) (ambient_w : w.ambient �
     scoped_past : (m : Both) → in_scopes_from (past_context name place m.kept).next (drop count hyps) ≡ true
     scoped_past m = let many = m.many in rw many (in_scopes-drop place.next count hyps scoped)
 
-  walk : (items : List Item) (l k : Spot) (place : Place) (hyps : List Term) → Stands items place → IsAt v items l place hyps → IsAt w items k place hyps → SameSizes v w (names_in items) →
+  walk : (items : List Item) (l k : Spot) (place : Place) (hyps : List Term) → Stands items place → IsAt v items l place hyps → IsAt w items k place hyps → SameSizes v w (contexts_among items) →
       in_scopes_from place.next hyps ≡ true → Ends items l k place hyps
   walk [] l k place hyps s a b sizes scoped = record {
     end = place;

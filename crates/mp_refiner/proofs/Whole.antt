@@ -20,7 +20,7 @@ use Rattle.mp_theory.specs.Tables.{IsRule}
 use Rattle.mp_refiner.specs.Law.{Misgiven, LargeStep, IsStepBy}
 use Rattle.mp_refiner.specs.RuleStep.{MeetsAll, RuleStep}
 use Rattle.mp_theory.specs.Allowed.{is_allowed, is_allowed_at, is_good}
-use Rattle.mp_refiner.specs.Steps.{given_all, outcome_given, outcome_matched, outcome_of, outcome_at, step_by}
+use Rattle.mp_refiner.specs.Steps.{given_all, outcome_given, outcome_matched, outcome_of, outcome_at, step_of_rules}
 use Rattle.mp_refiner.specs.laws.Asked.{IsAsked, asked}
 use Rattle.mp_refiner.specs.laws.Filled.{agrees_itself, gives_first, agrees_given, gives_made, meets_made, same_kid, premise_fits}
 use Rattle.mp_refiner.specs.laws.Lists.{In, value_or, in-each, each-all}
@@ -146,6 +146,6 @@ pub whole_law : (rules : List Rule) (place : ℕ) (rule : Rule) (first : Option 
 whole_law rules place rule first given goal is whole allowed good =
     let here : IsTrue (is_allowed_at (Some rule) first given) = ap (λ r. is_allowed_at r first given) (sym is) ∙ allowed in
     let s = step_is rule first given goal whole.needs (asked rule first given goal here good) in
-    let e : outcome_of rule first given goal ≡ step_by rules (just.Rule place first given) goal = ap (λ r. outcome_at r first given goal) (sym is) in
+    let e : outcome_of rule first given goal ≡ step_of_rules rules (just.Rule place first given) goal = ap (λ r. outcome_at r first given goal) (sym is) in
     let t = subst (IsStep rule first given goal) e s in
     record { kids = t.kids; no_match = t.no_match; bad_argument = t.bad_argument; too_large = t.too_large }

@@ -12,7 +12,7 @@ use Rattle.mp_theory.specs.Tables.{IsRule}
 use Rattle.mp_match.specs.Solutions.{GivesGoal}
 use Rattle.mp_refiner.specs.RuleStep.{MeetsAll, RuleStep}
 use Rattle.mp_theory.specs.Allowed.{is_allowed, is_good}
-use Rattle.mp_refiner.specs.Steps.{step_by}
+use Rattle.mp_refiner.specs.Steps.{step_of_rules}
 
 -- some instance has the goal as the conclusion, and none of them meets the needs as they are given
 pub record Misgiven (rule : Rule) (first : Option ℕ) (given : List Given) (goal : Sequent) : Type 0 where
@@ -28,10 +28,10 @@ pub record LargeStep (rule : Rule) (first : Option ℕ) (given : List Given) (go
 
 -- a step is what instances say, in both directions
 pub record IsStepBy (rules : List Rule) (place : ℕ) (rule : Rule) (first : Option ℕ) (given : List Given) (goal : Sequent) : Type 0 where
-  pub kids : (kids : List Sequent) → (step_by rules (just.Rule place first given) goal ≡ Ok kids) ↔ (RuleStep rule first given goal kids × (list_all within_limits_of kids ≡ true))
-  pub no_match : (step_by rules (just.Rule place first given) goal ≡ Err NoMatch) ↔ ((v : Instance) → GivesGoal rule.concl first goal v → ⊥)
-  pub bad_argument : (step_by rules (just.Rule place first given) goal ≡ Err BadArgument) ↔ Misgiven rule first given goal
-  pub too_large : (step_by rules (just.Rule place first given) goal ≡ Err TooLarge) ↔ LargeStep rule first given goal
+  pub kids : (kids : List Sequent) → (step_of_rules rules (just.Rule place first given) goal ≡ Ok kids) ↔ (RuleStep rule first given goal kids × (list_all within_limits_of kids ≡ true))
+  pub no_match : (step_of_rules rules (just.Rule place first given) goal ≡ Err NoMatch) ↔ ((v : Instance) → GivesGoal rule.concl first goal v → ⊥)
+  pub bad_argument : (step_of_rules rules (just.Rule place first given) goal ≡ Err BadArgument) ↔ Misgiven rule first given goal
+  pub too_large : (step_of_rules rules (just.Rule place first given) goal ≡ Err TooLarge) ↔ LargeStep rule first given goal
 
 -- each step by an allowed justification on a good goal is what instances say
 abbrev pub StepLaw : Type 0

@@ -48,8 +48,8 @@ outcome_at None first given goal = Err NoMatch
 outcome_at (Some rule) first given goal = outcome_of rule first given goal
 
 -- the step by a justification
-abbrev pub step_by : List Rule → Just → Sequent → Outcome Sequent
-step_by rules (just.Rule place first given) goal = outcome_at (slice_get rules place) first given goal
+abbrev pub step_of_rules : List Rule → Just → Sequent → Outcome Sequent
+step_of_rules rules (just.Rule place first given) goal = outcome_at (slice_get rules place) first given goal
 
 -- the greatest number of premises
 abbrev pub width_of_rules : List Rule → ℕ

@@ -1,6 +1,6 @@
 ghost use Rattle.std.specs.Prelude.{◌≡◌, map, IsTrue};
 ghost use Rattle.mp_theory.specs.Allowed.{is_good, is_allowed};
-ghost use Rattle.mp_refiner.specs.Steps.{step_by, width_of_rules};
+ghost use Rattle.mp_refiner.specs.Steps.{step_of_rules, width_of_rules};
 ghost use Rattle.mp_refiner.specs.laws.Goods.{step_keeps_good};
 ghost use Rattle.mp_refiner.specs.laws.Widths.{step_within_width};
 
@@ -49,7 +49,7 @@ impl<'a> Logic for Refiner<'a> {
 
     ghost allowed = { λ rules just. is_allowed rules just };
 
-    ghost step_of = { λ rules just goal. step_by rules just goal };
+    ghost step_of = { λ rules just goal. step_of_rules rules just goal };
 
     ghost width_of = { λ rules. width_of_rules rules };
 

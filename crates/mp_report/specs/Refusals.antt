@@ -7,6 +7,7 @@ use Rattle.mp_words.specs.declared.fail.TextWhy.TheVariants as why
 use Rattle.mp_report.specs.declared.refusal.FileKind.{FileKind}
 use Rattle.mp_report.specs.declared.refusal.FileKind.TheVariants as file
 
+-- the name of a kind of file
 abbrev pub file_text : FileKind → List ℕ
 file_text file.Theory = codes "theory"
 file_text file.Script = codes "script"

@@ -14,6 +14,7 @@ use Rattle.mp_strategy.specs.declared.outcome.Outcome.{Outcome}
 use Rattle.mp_strategy.specs.declared.outcome.Outcome.TheVariants as outcome
 use Rattle.mp_treetext.specs.Trees.{tree_text}
 
+-- the name of a kind of failure
 abbrev pub kind_text : Kind → List ℕ
 kind_text kind.OutOfFuel = codes "OutOfFuel"
 kind_text kind.NoMatch = codes "NoMatch"

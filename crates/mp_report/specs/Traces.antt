@@ -17,6 +17,7 @@ event_text (event.Die who) = codes "die " ++ decimal who
 event_text (event.Lose who) = codes "lose " ++ decimal who
 event_text event.Reissue = codes "reissue"
 
+-- the text of a reply
 abbrev pub reply_text : Reply → List ℕ
 reply_text (reply.Ticket epoch) = codes "ticket " ++ decimal epoch
 reply_text reply.Nothing = codes "nothing"

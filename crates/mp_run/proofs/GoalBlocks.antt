@@ -16,7 +16,7 @@ use Rattle.mp_report.specs.Traces.{trace_text}
 use Rattle.mp_drill.specs.declared.schedule.Section.{Section}
 use Rattle.mp_drill.specs.ScheduleValues.{EachInRange}
 use Rattle.mp_drill.specs.Sections.{SameEvents, events_of}
-use Rattle.mp_run.specs.Goals.{goal_work, goal_outcome, goal_text, evaluate_in, is_closed, AreBlocks, GoalsAnswer, GoalsInRange, IsBlock, IsDrilled, answer_of}
+use Rattle.mp_run.specs.Goals.{goal_work, goal_outcome, text_of_goal, evaluate_in, is_closed, AreBlocks, GoalsAnswer, GoalsInRange, IsBlock, IsDrilled, answer_of_blocks}
 
 abbrev pub block_of : List ℕ → Bool → Block
 block_of text closed = record { text = text; closed = closed }
@@ -43,7 +43,7 @@ kept_range kept sections same h name = let P : List Event → Type 0 = λ es. Is
 pub kept_answer : (names : Names) (rules : List Rule) (kept sections : List Section) (entries : List Entry) (answer : Answer)
     → SameEvents kept sections → GoalsAnswer names rules (Some kept) entries answer → GoalsAnswer names rules (Some sections) entries answer
 kept_answer names rules kept sections entries answer same h =
-    let P : (Sym → List Event) → Type 0 = λ events. (bs : List Block) × AreBlocks (λ e b. IsDrilled names rules (events e.name) e b) entries bs × (answer ≡ answer_of bs) in
+    let P : (Sym → List Event) → Type 0 = λ events. (bs : List Block) × AreBlocks (λ e b. IsDrilled names rules (events e.name) e b) entries bs × (answer ≡ answer_of_blocks bs) in
     let is : events_of kept ≡ events_of sections = λ i name. same name i in
     subst P is h
 
@@ -59,8 +59,8 @@ drill_made names rules sections entry o replies events trace result text closed 
     let C : Outcome Sequent → Bool = λ y. is_closed y in
     let T : List Event → List ℕ = λ es. trace_text names entry.name es replies in
     let first : trace ≡ trace_text names entry.name (events_of sections entry.name) replies = t ∙ ap T v in
-    let second : result ≡ goal_text names rules entry = r ∙ ap R e in
-    let whole : text ≡ trace_text names entry.name (events_of sections entry.name) replies ++ goal_text names rules entry = x ∙ (λ i. first i ++ second i) in
+    let second : result ≡ text_of_goal names rules entry = r ∙ ap R e in
+    let whole : text ≡ trace_text names entry.name (events_of sections entry.name) replies ++ text_of_goal names rules entry = x ∙ (λ i. first i ++ second i) in
     let shut : closed ≡ is_closed (goal_outcome rules entry) = k ∙ ap C e in
     (replies, subst P v (subst Q e h), (λ i. block_of (whole i) (shut i)))
 

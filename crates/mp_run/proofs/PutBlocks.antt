@@ -17,9 +17,9 @@ use Rattle.mp_drill.specs.Sections.{events_of}
 use Rattle.mp_run.specs.declared.block.Block.{Block}
 use Rattle.mp_run.specs.declared.status.Status.TheVariants as status
 use Rattle.mp_run.specs.Answers.{Names}
-use Rattle.mp_run.specs.Goals.{AreBlocks, IsBlock, evaluate_in, goal_work, goal_outcome, goal_text, is_closed}
+use Rattle.mp_run.specs.Goals.{AreBlocks, IsBlock, evaluate_in, goal_work, goal_outcome, text_of_goal, is_closed}
 use Rattle.mp_run.specs.Loads.{GoalsWrite}
-use Rattle.mp_run.specs.Runs.{joined}
+use Rattle.mp_logic.specs.Lists.{joined}
 use Rattle.mp_run.proofs.SameWorks.{decide_work}
 
 -- each schedule of a goal's works has a trace
@@ -28,10 +28,10 @@ EachTrace = CanBeCompared (Work Sequent) → (eval : Work Sequent → Outcome Se
 
 -- each goal has a block
 pub some_block : EachTrace → (names : Names) (rules : List Rule) (schedule : Option (List Section)) (entry : Entry) → (b : Block) × IsBlock names rules schedule entry b
-some_block some names rules None entry = (record { text = goal_text names rules entry; closed = is_closed (goal_outcome rules entry) }, refl)
+some_block some names rules None entry = (record { text = text_of_goal names rules entry; closed = is_closed (goal_outcome rules entry) }, refl)
 some_block some names rules (Some sections) entry =
     let trace = some decide_work (evaluate_in rules entry) (goal_work entry) (events_of sections entry.name) in (
-      record { text = trace_text names entry.name (events_of sections entry.name) trace.0 ++ goal_text names rules entry; closed = is_closed (goal_outcome rules entry) },
+      record { text = trace_text names entry.name (events_of sections entry.name) trace.0 ++ text_of_goal names rules entry; closed = is_closed (goal_outcome rules entry) },
       (trace.0, trace.1, refl),
     )
 

@@ -9,7 +9,7 @@ use Rattle.mp_words.specs.declared.fail.TextErr.{TextErr}
 use Rattle.mp_words.specs.declared.fail.TextFail.TheVariants.{Bad}
 use Rattle.mp_words.specs.declared.fail.TextWhy.TheVariants as why
 use Rattle.mp_words.specs.Faults.{least}
-use Rattle.mp_words.specs.Texts.{words_in, names_in, of_lexical, error_at, bad_token, stuck, broken, ReadsText}
+use Rattle.mp_words.specs.Texts.{words_in, table_after, of_lexical, error_at, bad_token, stuck, broken, ReadsText}
 use Rattle.mp_words.proofs.Answering.{none_least}
 use Rattle.mp_theory.specs.declared.rule.Rule.{Rule}
 use Rattle.mp_schematext.specs.Grammar.{IsTheory, StuckTheory}
@@ -32,7 +32,7 @@ use Rattle.mp_report.specs.declared.refusal.FileKind.TheVariants.{Theory, Script
 use Rattle.mp_report.specs.Refusals.{refusal_text}
 use Rattle.mp_run.specs.Answers.{Answer, Refusal, Names, Reading, FileThen}
 use Rattle.mp_run.specs.Commands.{Command}
-use Rattle.mp_run.specs.Goals.{answer_of, GoalsAnswer}
+use Rattle.mp_run.specs.Goals.{answer_of_blocks, GoalsAnswer}
 use Rattle.mp_run.specs.Headline.{Answers, ScriptAnswers, ScheduleAnswers}
 use Rattle.mp_run.specs.Laws.{AreTold, SomeAnswer}
 use Rattle.mp_run.specs.Lines.{limit_of, long_line}
@@ -53,16 +53,16 @@ module _ {X V : Type 0} (Is : X → List Word → List Word → Type 0) (Stuck :
   Said = SaysSome (ReadsText Is Stuck faults value names) source
 
   by_faults : (ts : List Token) (raw : X) → lex source ≡ Ok ts → Is raw (words_in names source ts) [] → (found : Option Fault) → least (faults raw) ≡ found → Said
-  by_faults ts raw l is None f = inl (value raw, names_in names source, (record { tokens = ts; raw = raw; lexed = l; is = is; faultless = none_least (faults raw) f; has = refl }, refl))
-  by_faults ts raw l is (Some g) f = inr (error_at source ts g.left g.why, names_in names source, (broken ts raw g l is f refl, refl))
+  by_faults ts raw l is None f = inl (value raw, table_after names source, (record { tokens = ts; raw = raw; lexed = l; is = is; faultless = none_least (faults raw) f; has = refl }, refl))
+  by_faults ts raw l is (Some g) f = inr (error_at source ts g.left g.why, table_after names source, (broken ts raw g l is f refl, refl))
 
   by_words : (ts : List Token) → lex source ≡ Ok ts → ((x : X) × Is x (words_in names source ts) []) ⊎ ((rest : List Word) × Stuck (words_in names source ts) rest) → Said
   by_words ts l (inl h) = by_faults ts h.0 l h.1 (least (faults h.0)) refl
-  by_words ts l (inr h) = inr (error_at source ts (length h.0) why.Syntax, names_in names source, (stuck ts h.0 l h.1 refl, refl))
+  by_words ts l (inr h) = inr (error_at source ts (length h.0) why.Syntax, table_after names source, (stuck ts h.0 l h.1 refl, refl))
 
   by_tokens : SomeReading Is Stuck → (r : Lexing) → lex source ≡ r → Said
   by_tokens some (Ok ts) l = by_words ts l (some (words_in names source ts))
-  by_tokens some (Err f) l = inr (record { at = f.0; why = of_lexical f.1 }, names_in names source, (bad_token f.1 l refl, refl))
+  by_tokens some (Err f) l = inr (record { at = f.0; why = of_lexical f.1 }, table_after names source, (bad_token f.1 l refl, refl))
 
   -- a text has a value or a fault where its words are read or stuck
   some_text : SomeReading Is Stuck → Said
@@ -88,7 +88,7 @@ module _ {V : Type 0} (kind : FileKind) (reads : Reading V) (next : V → Names 
 
 module _ (traces : EachTrace) where
   some_goals : (names : Names) (rules : List Rule) (schedule : Option (List Section)) (entries : List Entry) → (answer : Answer) × GoalsAnswer names rules schedule entries answer
-  some_goals names rules schedule entries = let blocks = some_blocks traces names rules schedule entries in (answer_of blocks.0, (blocks.0, blocks.1, refl))
+  some_goals names rules schedule entries = let blocks = some_blocks traces names rules schedule entries in (answer_of_blocks blocks.0, (blocks.0, blocks.1, refl))
 
   module _ (files : List ℕ → Option (List ℕ)) where
     schedule_answer : (file : Option (List ℕ)) → IfSome file (λ name. IsSome (files name)) → (rules : List Rule) (goals : Goals) (names : Names) → (answer : Answer) × ScheduleAnswers files file rules goals names answer

@@ -15,7 +15,7 @@ use Rattle.mp_schematext.specs.declared.raw.RawItem.{RawItem}
 use Rattle.mp_schematext.specs.declared.raw.RawSchema.{RawSchema}
 use Rattle.mp_words.specs.Parts.{No, None_of, Lacks, IsMark, IsWord, IsName, IsNameBehind, StuckNameBehind, IsCapAt, IsCapVar, Ended, StuckEnded, Both, StuckBoth, After, StuckAfter, Separated, StuckSeparated}
 use Rattle.mp_termtext.specs.Grammar.{IsVariable, IsParamWord, AreBinders, StuckBinders}
-use Rattle.mp_schematext.specs.Grammar.{IsParamPatWord, IsParamPat, StuckParamPat, AreParamPats, StuckParamPats, AreContexts, StuckContexts, IsPattern, AreArguments, AreArgs, AreSubs, AreBounds, IsBound, StuckPattern, StuckArguments, StuckArgs, StuckSubs, StuckBounds, StuckBound, variable, second_order, operator, no_arguments, some_arguments, last_arg, more_args, no_subs, some_subs, last_bound, more_bounds, bound, no_pattern, in_contexts, in_arguments, in_params, in_subs, in_brackets, in_arg, behind_arg, in_other_args, in_braces, in_bound, behind_bound, in_other_bounds, in_binders, in_body, IsContext, StuckContext, IsHypothesis, StuckHypothesis, IsItem, StuckItem, AreItems, StuckItems, IsSchema, StuckSchema, ArePremises, StuckPremises, IsRule, StuckRule, IsTheory, StuckTheory}
+use Rattle.mp_schematext.specs.Grammar.{IsParamPatWord, IsParamPat, StuckParamPat, AreParamPats, StuckParamPats, AreContexts, StuckContexts, IsPattern, AreArguments, AreArgs, ArePatternSubs, ArePatternBounds, IsPatternBound, StuckPattern, StuckArguments, StuckArgs, StuckPatternSubs, StuckPatternBounds, StuckPatternBound, variable, second_order, operator, no_arguments, some_arguments, last_arg, more_args, no_subs, some_subs, last_bound, more_bounds, bound, no_pattern, in_contexts, in_arguments, in_params, in_subs, in_brackets, in_arg, behind_arg, in_other_args, in_braces, in_bound, behind_bound, in_other_bounds, in_binders, in_body, IsContext, StuckContext, IsHypothesis, StuckHypothesis, IsItem, StuckItem, AreItems, StuckItems, IsSchema, StuckSchema, ArePremises, StuckPremises, IsRule, StuckRule, IsTheory, StuckTheory}
 use Rattle.mp_run.proofs.Total.{Stands, Found, Decides, Total, SomeReading, by_length, mark_stands, word_stands, name_found, cap_var_found, total_name, total_cap_at}
 use Rattle.mp_run.proofs.TotalParts.{of_any_length, read_as, both_at, after_at, optional_at, ended_at, some_many, total_name_behind, total_separated, total_listed}
 use Rattle.mp_run.proofs.TotalTerms.{variable_found, param_word_found, total_binders}
@@ -66,7 +66,7 @@ total_contexts ts =
 
 -- lists of arguments and of subterms are read or stuck
 abbrev Lists : List Word → Type 0
-Lists ts = Decides 1 AreArgs StuckArgs ts × Decides 1 AreBounds StuckBounds ts
+Lists ts = Decides 1 AreArgs StuckArgs ts × Decides 1 ArePatternBounds StuckPatternBounds ts
 
 -- and so are those that stand at fewer words
 abbrev ListsBehind : List Word → Type 0
@@ -80,15 +80,15 @@ arguments_at : (ts : List Word) → Stands (IsMark mark.OpenBracket) ts → List
 arguments_at ts (inl k) rec = arguments_there ts k.0 k.1 k.2 (rec k.0 (omega (arith, k.2))).0
 arguments_at ts (inr n) rec = inl ([], ts, no_arguments [] ts ts refl n refl, omega arith)
 
-subs_there : (ts us : List Word) → IsMark mark.OpenBrace ts us → 1 + length us ≤ length ts → Decides 1 AreBounds StuckBounds us → Decides 0 AreSubs StuckSubs ts
+subs_there : (ts us : List Word) → IsMark mark.OpenBrace ts us → 1 + length us ≤ length ts → Decides 1 ArePatternBounds StuckPatternBounds us → Decides 0 ArePatternSubs StuckPatternSubs ts
 subs_there ts us k s (inl h) = inl (h.0, h.1, some_subs h.0 ts h.1 us k h.2, omega (arith, s, h.3))
 subs_there ts us k s (inr h) = inr (h.0, in_braces ts h.0 us k h.1)
 
-subs_at : (ts : List Word) → Stands (IsMark mark.OpenBrace) ts → ListsBehind ts → Decides 0 AreSubs StuckSubs ts
+subs_at : (ts : List Word) → Stands (IsMark mark.OpenBrace) ts → ListsBehind ts → Decides 0 ArePatternSubs StuckPatternSubs ts
 subs_at ts (inl k) rec = subs_there ts k.0 k.1 k.2 (rec k.0 (omega (arith, k.2))).1
 subs_at ts (inr n) rec = inl ([], ts, no_subs [] ts ts refl n refl, omega arith)
 
-with_subs : (ts : List Word) (n : Sym) (ps : List RawParamPat) (us vs : List Word) → IsName n ts us → AreParamPats ps us vs → 1 + length vs ≤ length ts → Decides 0 AreSubs StuckSubs vs → Decides 1 IsPattern StuckPattern ts
+with_subs : (ts : List Word) (n : Sym) (ps : List RawParamPat) (us vs : List Word) → IsName n ts us → AreParamPats ps us vs → 1 + length vs ≤ length ts → Decides 0 ArePatternSubs StuckPatternSubs vs → Decides 1 IsPattern StuckPattern ts
 with_subs ts n ps us vs h p s (inl k) = inl (Op n ps k.0 (length ts), k.1, operator (Op n ps k.0 (length ts)) ts k.1 n ps k.0 us vs refl h p k.2, omega (arith, s, k.3))
 with_subs ts n ps us vs h p s (inr k) = inr (k.0, in_subs ts k.0 n ps us vs h p k.1)
 
@@ -131,26 +131,26 @@ args_at : (ts : List Word) → Decides 1 IsPattern StuckPattern ts → ListsBehi
 args_at ts (inl x) rec = behind_one_arg ts x.0 x.1 x.2 x.3 (mark_stands mark.CloseBracket x.1) (mark_stands mark.Semicolon x.1) rec
 args_at ts (inr x) rec = inr (x.0, in_arg ts x.0 x.1)
 
-with_body : (ts : List Word) (bs : List RawName) (us : List Word) → AreBinders bs ts us → 0 + length us ≤ length ts → Decides 1 IsPattern StuckPattern us → Decides 1 IsBound StuckBound ts
+with_body : (ts : List Word) (bs : List RawName) (us : List Word) → AreBinders bs ts us → 0 + length us ≤ length ts → Decides 1 IsPattern StuckPattern us → Decides 1 IsPatternBound StuckPatternBound ts
 with_body ts bs us b s (inl x) = inl (record { binders = bs; body = x.0 }, x.1, bound (record { binders = bs; body = x.0 }) ts x.1 bs x.0 us refl b x.2, omega (arith, s, x.3))
 with_body ts bs us b s (inr x) = inr (x.0, in_body ts x.0 bs us b x.1)
 
-bound_at : (ts : List Word) → Decides 0 AreBinders StuckBinders ts → ListsBehind ts → Decides 1 IsBound StuckBound ts
+bound_at : (ts : List Word) → Decides 0 AreBinders StuckBinders ts → ListsBehind ts → Decides 1 IsPatternBound StuckPatternBound ts
 bound_at ts (inl b) rec = with_body ts b.0 b.1 b.2 b.3 (pattern_at b.1 (λ us s. rec us (omega (arith, s, b.3))))
 bound_at ts (inr b) rec = inr (b.0, in_binders ts b.0 b.1)
 
-and_more_bounds : (ts : List Word) (k : RawPatternBound) (us vs : List Word) → IsBound k ts us → IsMark mark.Semicolon us vs → 1 + length us ≤ length ts → 1 + length vs ≤ length us → Decides 1 AreBounds StuckBounds vs
-    → Decides 1 AreBounds StuckBounds ts
+and_more_bounds : (ts : List Word) (k : RawPatternBound) (us vs : List Word) → IsPatternBound k ts us → IsMark mark.Semicolon us vs → 1 + length us ≤ length ts → 1 + length vs ≤ length us → Decides 1 ArePatternBounds StuckPatternBounds vs
+    → Decides 1 ArePatternBounds StuckPatternBounds ts
 and_more_bounds ts k us vs h m s t (inl b) = inl (k ∷ b.0, b.1, more_bounds (k ∷ b.0) ts b.1 k b.0 us vs refl h m b.2, omega (arith, s, t, b.3))
 and_more_bounds ts k us vs h m s t (inr b) = inr (b.0, in_other_bounds ts b.0 k us vs h m b.1)
 
-behind_one_bound : (ts : List Word) (k : RawPatternBound) (us : List Word) → IsBound k ts us → 1 + length us ≤ length ts → Stands (IsMark mark.CloseBrace) us → Stands (IsMark mark.Semicolon) us → ListsBehind ts
-    → Decides 1 AreBounds StuckBounds ts
+behind_one_bound : (ts : List Word) (k : RawPatternBound) (us : List Word) → IsPatternBound k ts us → 1 + length us ≤ length ts → Stands (IsMark mark.CloseBrace) us → Stands (IsMark mark.Semicolon) us → ListsBehind ts
+    → Decides 1 ArePatternBounds StuckPatternBounds ts
 behind_one_bound ts k us h s (inl c) m rec = inl (k ∷ [], c.0, last_bound (k ∷ []) ts c.0 k us refl h c.1, omega (arith, s, c.2))
 behind_one_bound ts k us h s (inr n) (inl m) rec = and_more_bounds ts k us m.0 h m.1 s m.2 (rec m.0 (omega (arith, s, m.2))).1
 behind_one_bound ts k us h s (inr n) (inr m) rec = inr (us, behind_bound ts us k h n m)
 
-bounds_at : (ts : List Word) → Decides 1 IsBound StuckBound ts → ListsBehind ts → Decides 1 AreBounds StuckBounds ts
+bounds_at : (ts : List Word) → Decides 1 IsPatternBound StuckPatternBound ts → ListsBehind ts → Decides 1 ArePatternBounds StuckPatternBounds ts
 bounds_at ts (inl k) rec = behind_one_bound ts k.0 k.1 k.2 k.3 (mark_stands mark.CloseBrace k.1) (mark_stands mark.Semicolon k.1) rec
 bounds_at ts (inr k) rec = inr (k.0, in_bound ts k.0 k.1)
 

@@ -35,7 +35,7 @@ use Rattle.mp_report.specs.declared.refusal.FileKind.TheVariants.{Theory, Script
 use Rattle.mp_run.specs.declared.status.Status.{Status}
 use Rattle.mp_run.specs.Answers.{Answer, Blocks, Refusal, Names, Reading, Says, FileThen}
 use Rattle.mp_run.specs.Commands.{Command}
-use Rattle.mp_run.specs.Goals.{goal_work, goal_outcome, goal_text, evaluate_in, is_closed, IsBlock, AreBlocks, answer_of, GoalsAnswer}
+use Rattle.mp_run.specs.Goals.{goal_work, goal_outcome, text_of_goal, evaluate_in, is_closed, IsBlock, AreBlocks, answer_of_blocks, GoalsAnswer}
 use Rattle.mp_run.specs.Headline.{Answers, ScriptAnswers, ScheduleAnswers, RunAnswers}
 use Rattle.mp_run.specs.Laws.{AreTold, OneAnswer, OneOutput}
 use Rattle.mp_run.specs.Runs.{Ends}
@@ -88,7 +88,7 @@ module _ (one : (eval : Work Sequent → Outcome Sequent) → OneTrace eval) whe
       let events = events_of sections entry.name in
       let outcome = goal_outcome rules entry in
       let same = (one (evaluate_in rules entry) (goal_work entry) events h.0 k.0 outcome outcome h.1 k.1).0 in
-      let block : List Reply → Block = λ rs. record { text = trace_text names entry.name events rs ++ goal_text names rules entry; closed = is_closed outcome } in
+      let block : List Reply → Block = λ rs. record { text = trace_text names entry.name events rs ++ text_of_goal names rules entry; closed = is_closed outcome } in
       h.2 ∙ ap block same ∙ sym k.2
 
   one_blocks : (names : Names) (rules : List Rule) (schedule : Option (List Section)) (entries : List Entry) (bs cs : List Block) → AreBlocks (IsBlock names rules schedule) entries bs → AreBlocks (IsBlock names rules schedule) entries cs → bs ≡ cs
@@ -103,7 +103,7 @@ module _ (one : (eval : Work Sequent → Outcome Sequent) → OneTrace eval) whe
       λ i. first i ∷ rest i
 
   one_goals : (names : Names) (rules : List Rule) (schedule : Option (List Section)) (entries : List Entry) (a b : Answer) → GoalsAnswer names rules schedule entries a → GoalsAnswer names rules schedule entries b → a ≡ b
-  one_goals names rules schedule entries a b h k = h.2 ∙ ap answer_of (one_blocks names rules schedule entries h.0 k.0 h.1 k.1) ∙ sym k.2
+  one_goals names rules schedule entries a b h k = h.2 ∙ ap answer_of_blocks (one_blocks names rules schedule entries h.0 k.0 h.1 k.1) ∙ sym k.2
 
   module _ (theory : OneTheoryText) (script : OneScriptText) (schedule : OneScheduleText) (files : List ℕ → Option (List ℕ)) where
     one_schedule : (file : Option (List ℕ)) → IfSome file (λ name. IsSome (files name)) → (rules : List Rule) (goals : Goals) (names : Names) (a b : Answer)

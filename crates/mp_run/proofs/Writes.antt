@@ -10,11 +10,12 @@ use Rattle.mp_run.specs.declared.stop.Stop.{Stop}
 use Rattle.mp_run.specs.declared.stop.Stop.TheVariants as stop
 use Rattle.mp_run.specs.Answers.{Answer, Blocks, Refusal}
 use Rattle.mp_run.specs.Commands.{Command}
-use Rattle.mp_run.specs.Goals.{AreBlocks, answer_of}
+use Rattle.mp_run.specs.Goals.{AreBlocks, answer_of_blocks}
 use Rattle.mp_run.specs.Headline.{Answers, RunAnswers}
 use Rattle.mp_run.specs.declared.loading.Loaded.{Loaded}
 use Rattle.mp_run.specs.Loads.{GoalsWrite}
-use Rattle.mp_run.specs.Runs.{joined, Ends, ReadsFile, FailsFile, MayBegin, CommandWrites}
+use Rattle.mp_run.specs.Runs.{Ends, ReadsFile, FailsFile, MayBegin, CommandWrites}
+use Rattle.mp_logic.specs.Lists.{joined}
 use Rattle.mp_run.specs.Stops.{StopsWith, StopWrites, StopCause}
 
 ends_closed : (texts : List (List ℕ)) (b : Bool) (text : List ℕ) → b ≡ true → text ≡ joined texts → Ends (Blocks texts b) status.AllClosed text
@@ -36,20 +37,20 @@ module _ (IsRead : FileKind → Type 0) (IsAnswer : Answer → Type 0) where
       let P : Status → Type 0 = λ x. CommandWrites IsRead IsAnswer x text in
       subst P (sym e) (inl f)
 
-  begins : (bs : List Block) (text rest : List ℕ) → IsAnswer (answer_of bs) → text ++ rest ≡ joined (map (λ b. b.text) bs) → MayBegin IsRead IsAnswer text
+  begins : (bs : List Block) (text rest : List ℕ) → IsAnswer (answer_of_blocks bs) → text ++ rest ≡ joined (map (λ b. b.text) bs) → MayBegin IsRead IsAnswer text
   begins bs text rest is e =
       let done = ends_somehow (map (λ b. b.text) bs) (list_all (λ b. b.closed) bs) (text ++ rest) e in
-      inr (rest, inl (done.0, (answer_of bs, is, done.1)))
+      inr (rest, inl (done.0, (answer_of_blocks bs, is, done.1)))
 
   pub goals_written : (Is : Entry → Block → Type 0) (entries : List Entry) (s : Status) (text : List ℕ)
-      → ((answer : Answer) → ((bs : List Block) × AreBlocks Is entries bs × (answer ≡ answer_of bs)) → IsAnswer answer)
+      → ((answer : Answer) → ((bs : List Block) × AreBlocks Is entries bs × (answer ≡ answer_of_blocks bs)) → IsAnswer answer)
       → GoalsWrite Is entries s text → CommandWrites IsRead IsAnswer s text
   goals_written Is entries status.AllClosed text is h =
-      (answer_of h.0, is (answer_of h.0) (h.0, h.1, refl), ends_closed (map (λ b. b.text) h.0) (list_all (λ b. b.closed) h.0) text h.2 h.3)
+      (answer_of_blocks h.0, is (answer_of_blocks h.0) (h.0, h.1, refl), ends_closed (map (λ b. b.text) h.0) (list_all (λ b. b.closed) h.0) text h.2 h.3)
   goals_written Is entries status.NotAll text is h =
-      (answer_of h.0, is (answer_of h.0) (h.0, h.1, refl), ends_open (map (λ b. b.text) h.0) (list_all (λ b. b.closed) h.0) text h.2 h.3)
-  goals_written Is entries status.WriteFault text is h = begins h.0 text h.2 (is (answer_of h.0) (h.0, h.1, refl)) h.3
-  goals_written Is entries status.NoMemory text is h = begins h.0 text h.2 (is (answer_of h.0) (h.0, h.1, refl)) h.3
+      (answer_of_blocks h.0, is (answer_of_blocks h.0) (h.0, h.1, refl), ends_open (map (λ b. b.text) h.0) (list_all (λ b. b.closed) h.0) text h.2 h.3)
+  goals_written Is entries status.WriteFault text is h = begins h.0 text h.2 (is (answer_of_blocks h.0) (h.0, h.1, refl)) h.3
+  goals_written Is entries status.NoMemory text is h = begins h.0 text h.2 (is (answer_of_blocks h.0) (h.0, h.1, refl)) h.3
   goals_written Is entries status.Usage text is h = absurd h
   goals_written Is entries status.Refused text is h = absurd h
   goals_written Is entries status.ReadFault text is h = absurd h
@@ -75,7 +76,7 @@ module _ (files : List ℕ → Option (List ℕ)) (longs later : ℕ) (command :
 
   -- blocks need none
   pub blocks_caused : (Is : Entry → Block → Type 0) (entries : List Entry)
-      → ((answer : Answer) → ((bs : List Block) × AreBlocks Is entries bs × (answer ≡ answer_of bs)) → Answers files command answer)
-      → (answer : Answer) → ((bs : List Block) × AreBlocks Is entries bs × (answer ≡ answer_of bs)) → RunAnswers files longs later command answer
+      → ((answer : Answer) → ((bs : List Block) × AreBlocks Is entries bs × (answer ≡ answer_of_blocks bs)) → Answers files command answer)
+      → (answer : Answer) → ((bs : List Block) × AreBlocks Is entries bs × (answer ≡ answer_of_blocks bs)) → RunAnswers files longs later command answer
   blocks_caused Is entries is answer h =
-      subst (λ (a : Answer). RunAnswers files longs later command a) (sym h.2) (is (answer_of h.0) (h.0, h.1, refl))
+      subst (λ (a : Answer). RunAnswers files longs later command a) (sym h.2) (is (answer_of_blocks h.0) (h.0, h.1, refl))

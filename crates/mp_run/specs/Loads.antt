@@ -12,7 +12,7 @@ use Rattle.mp_run.specs.declared.status.Status.{Status}
 use Rattle.mp_run.specs.declared.status.Status.TheVariants as status
 use Rattle.mp_scripttext.specs.declared.script.Entry.{Entry}
 use Rattle.mp_run.specs.Goals.{GoalsAnswer, GoalsInRange, AreBlocks}
-use Rattle.mp_run.specs.Runs.{joined}
+use Rattle.mp_logic.specs.Lists.{joined}
 use Rattle.mp_run.specs.Stops.{StopsWith}
 
 -- the schedule's events are in their ranges, if there is one

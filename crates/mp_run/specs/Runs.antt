@@ -10,10 +10,7 @@ use Rattle.mp_run.specs.declared.status.Status.TheVariants as status
 use Rattle.mp_run.specs.Commands.{Command, usage_line}
 use Rattle.mp_run.specs.Lines.{fault_line}
 use Rattle.mp_run.specs.Answers.{Answer, Blocks, Refusal}
-
--- the texts one after the other
-abbrev pub joined : List (List ℕ) → List ℕ
-joined texts = flat_map (λ text. text) texts
+use Rattle.mp_logic.specs.Lists.{joined}
 
 -- the whole text of an answer, under its status
 abbrev pub Ends : Answer → Status → List ℕ → Type 0

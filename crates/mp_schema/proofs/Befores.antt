@@ -6,7 +6,7 @@ use Rattle.mp_logic.specs.declared.sym.Sym.{Sym}
 use Rattle.mp_schema.specs.declared.pattern.Pattern.{Pattern}
 use Rattle.mp_schema.specs.declared.schema.Item.{Item}
 use Rattle.mp_schema.specs.declared.schema.Item.TheVariants.{Ctx, Hyp}
-use Rattle.mp_schema.specs.Conditions.{Before, nothing_before, past, past_all, each_item, has, has_all, names_in}
+use Rattle.mp_schema.specs.Conditions.{Before, nothing_before, past, past_all, each_item, has, has_all, contexts_among}
 use Rattle.mp_schema.specs.Occurrences.{Occurrence}
 use Rattle.mp_schema.specs.Faults.{all_listed}
 use Rattle.mp_schema.proofs.Finding.{left-cons}
@@ -72,11 +72,11 @@ or_moved false true z = refl
 or_moved false false z = refl
 
 -- a context stands before a place where it is among the items before it
-pub has-past : (is : List Item) (b : Before) (name : Sym) → has (past_all is b).contexts name ≡ (has (names_in is) name || has b.contexts name)
+pub has-past : (is : List Item) (b : Before) (name : Sym) → has (past_all is b).contexts name ≡ (has (contexts_among is) name || has b.contexts name)
 has-past [] b name = refl
 has-past (Hyp p ∷ is) b name = has-past is (past (Hyp p) b) name
 has-past (Ctx other ctxs args ∷ is) b name =
-    has-past is (past (Ctx other ctxs args) b) name ∙ or_moved (nat_eq other.0 name.0) (has (names_in is) name) (has b.contexts name)
+    has-past is (past (Ctx other ctxs args) b) name ∙ or_moved (nat_eq other.0 name.0) (has (contexts_among is) name) (has b.contexts name)
 
 or_false : (x : Bool) → (x || false) ≡ x
 or_false true = refl
@@ -88,11 +88,11 @@ has_all-same a b same (x ∷ xs) = ap (λ t. t && has_all a xs) (same x) ∙ ap 
 
 -- so lists may be compared with the items themselves
 pub all_listed-items : (is : List Item) (os : List Occurrence) →
-    all_listed (names_in is) os ≡ all_listed (past_all is nothing_before).contexts os
+    all_listed (contexts_among is) os ≡ all_listed (past_all is nothing_before).contexts os
 all_listed-items is [] = refl
 all_listed-items is (o ∷ os) =
-    let same : (name : Sym) → has (names_in is) name ≡ has (past_all is nothing_before).contexts name =
-    λ name. sym (has-past is nothing_before name ∙ or_false (has (names_in is) name))
+    let same : (name : Sym) → has (contexts_among is) name ≡ has (past_all is nothing_before).contexts name =
+    λ name. sym (has-past is nothing_before name ∙ or_false (has (contexts_among is) name))
     in
-    ap (λ t. t && all_listed (names_in is) os) (has_all-same _ _ same o.ctxs)
+    ap (λ t. t && all_listed (contexts_among is) os) (has_all-same _ _ same o.ctxs)
     ∙ ap (λ t. has_all (past_all is nothing_before).contexts o.ctxs && t) (all_listed-items is os)

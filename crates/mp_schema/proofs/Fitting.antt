@@ -11,7 +11,7 @@ use Rattle.mp_schema.specs.declared.schema.Item.TheVariants.{Ctx, Hyp}
 use Rattle.mp_schema.specs.declared.schema.Schema.{Schema}
 use Rattle.mp_schema.specs.Faultless.{occurrence_fits}
 use Rattle.mp_schema.specs.Instances.{Values, Wide, fits, fits_bound, all_pass}
-use Rattle.mp_schema.specs.Occurrences.{Occurrence, level_of, occurrences_in, occurrences_in_item, occurrences_in_schema}
+use Rattle.mp_schema.specs.Occurrences.{Occurrence, variable_level, occurrences_in, occurrences_in_item, occurrences_in_schema}
 use Rattle.mp_schema.specs.Sequents.{Instance, wide_of, item_fits, schema_fits}
 use Rattle.mp_schema.proofs.Layers.{fits-Var, fits-Op, fits-Meta, fits_bound-is}
 use Rattle.mp_schema.proofs.Told.{AsksEach, told, told_all}
@@ -25,7 +25,7 @@ asks_fit w v = record {
   of_var = fits-Var w v;
   of_op = fits-Op w v;
   of_meta = λ n cs args.
-      fits-Meta w v n cs args ∙ ap (λ k. in_scope_of (v.meta n) (w cs + k) && all_pass (map (fits w v) args)) (sym (length-map args level_of));
+      fits-Meta w v n cs args ∙ ap (λ k. in_scope_of (v.meta n) (w cs + k) && all_pass (map (fits w v) args)) (sym (length-map args variable_level));
   of_bound = fits_bound-is w v;
 }
 
@@ -47,8 +47,8 @@ module _ (v : Instance) where
   item_fits-told : (i : Item) → item_fits v i ≡ list_all (occurrence_fits v) (occurrences_in_item i)
   item_fits-told (Hyp p) = pattern_fits-told p
   item_fits-told (Ctx name ctxs args) =
-      ap (λ k. in_scopes_from (wide_of v ctxs + k) (v.kept name) && all_pass (map (fits (wide_of v) v.values) args)) (sym (length-map args level_of))
-      ∙ ap (λ t. in_scopes_from (wide_of v ctxs + length (map level_of args)) (v.kept name) && t)
+      ap (λ k. in_scopes_from (wide_of v ctxs + k) (v.kept name) && all_pass (map (fits (wide_of v) v.values) args)) (sym (length-map args variable_level))
+      ∙ ap (λ t. in_scopes_from (wide_of v ctxs + length (map variable_level args)) (v.kept name) && t)
       (told_all (occurrence_fits v) (fits (wide_of v) v.values) (fits_bound (wide_of v) v.values) asks_fit_here args)
 
   items_fit-told : (is : List Item) → list_all (item_fits v) is ≡ list_all (occurrence_fits v) (flat_map occurrences_in_item is)

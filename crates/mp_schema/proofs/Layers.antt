@@ -6,7 +6,8 @@ use Rattle.std.proofs.lemmas.Simd.{map-map}
 use Rattle.std.specs.List.{flat_map}
 use Rattle.mp_logic.specs.declared.sym.Sym.{Sym}
 use Rattle.mp_term.specs.declared.term.Term.{Term, Var, Op}
-use Rattle.mp_term.specs.Terms.{in_scope_of, at_scope, greatest}
+use Rattle.mp_term.specs.Terms.{in_scope_of, all_at_scope}
+use Rattle.mp_logic.specs.Lists.{greatest}
 use Rattle.mp_subst.specs.Subst.{sub_of, variables}
 use Rattle.mp_schema.specs.declared.pattern.ParamPat.{ParamPat}
 use Rattle.mp_schema.specs.declared.pattern.Pattern.{Pattern, the_lemmas}
@@ -14,7 +15,7 @@ use Rattle.mp_schema.specs.declared.pattern.Pattern as pat
 use Rattle.mp_schema.specs.declared.pattern.PBound.{PBound}
 use Rattle.mp_schema.specs.Instances.{Values, Ground, Wide, inst_of, inst_bound, made_each, param_of, fits, fits_bound, all_pass}
 use Rattle.mp_schema.specs.Limits.{few_of, few_of_bound, pattern_depth_of, pattern_depth_of_bound, pattern_size_of, pattern_size_of_bound}
-use Rattle.mp_schema.specs.Occurrences.{Shown, shown, level_of, occurrences_in, occurrences_in_bound, occurrences_shown, hole_in_param, holes_in, holes_in_bound}
+use Rattle.mp_schema.specs.Occurrences.{Shown, shown, variable_level, occurrences_in, occurrences_in_bound, occurrences_shown, hole_in_param, holes_in, holes_in_bound}
 use Rattle.mp_schema.specs.Conditions.{below, below_bound, lists_known, lists_known_bound, is_known, seen, seen_bound, all_fine, args_fine}
 
 module _ (g : Ground) (v : Values) where
@@ -76,10 +77,10 @@ fine_bound-is b d = search (rules, the_lemmas)
 pub below-Var : (l d : ℕ) → below (pat.Var l) d ≡ nat_lt l d
 below-Var l d = search (rules, the_lemmas)
 
-pub below-Op : (o : Sym) (ps : List ParamPat) (subs : List PBound) (d : ℕ) → below (pat.Op o ps subs) d ≡ at_scope d (map below_bound subs)
+pub below-Op : (o : Sym) (ps : List ParamPat) (subs : List PBound) (d : ℕ) → below (pat.Op o ps subs) d ≡ all_at_scope d (map below_bound subs)
 below-Op o ps subs d = search (rules, the_lemmas)
 
-pub below-Meta : (n : Sym) (cs : List Sym) (args : List Pattern) (d : ℕ) → below (pat.Meta n cs args) d ≡ at_scope d (map below args)
+pub below-Meta : (n : Sym) (cs : List Sym) (args : List Pattern) (d : ℕ) → below (pat.Meta n cs args) d ≡ all_at_scope d (map below args)
 below-Meta n cs args d = search (rules, the_lemmas)
 
 pub below_bound-is : (b : PBound) (d : ℕ) → below_bound b d ≡ below b.body (d + b.binders)
@@ -100,13 +101,13 @@ module _ (known : List Sym) where
   pub lists_known_bound-is : (b : PBound) → lists_known_bound known b ≡ lists_known known b.body
   lists_known_bound-is b = search (rules, the_lemmas)
 
-pub level_of-Var : (l : ℕ) → level_of (pat.Var l) ≡ Some l
+pub level_of-Var : (l : ℕ) → variable_level (pat.Var l) ≡ Some l
 level_of-Var l = search (rules, the_lemmas)
 
-pub level_of-Op : (o : Sym) (ps : List ParamPat) (subs : List PBound) → level_of (pat.Op o ps subs) ≡ None
+pub level_of-Op : (o : Sym) (ps : List ParamPat) (subs : List PBound) → variable_level (pat.Op o ps subs) ≡ None
 level_of-Op o ps subs = search (rules, the_lemmas)
 
-pub level_of-Meta : (n : Sym) (cs : List Sym) (args : List Pattern) → level_of (pat.Meta n cs args) ≡ None
+pub level_of-Meta : (n : Sym) (cs : List Sym) (args : List Pattern) → variable_level (pat.Meta n cs args) ≡ None
 level_of-Meta n cs args = search (rules, the_lemmas)
 
 pub occurrences_in-Var : (l : ℕ) → occurrences_in (pat.Var l) ≡ []
@@ -120,7 +121,7 @@ occurrences_in-Op o ps subs =
 
 pub occurrences_in-Meta : (n : Sym) (cs : List Sym) (args : List Pattern) →
     occurrences_in (pat.Meta n cs args)
-    ≡ record { is_context = false; name = n; ctxs = cs; levels = map level_of args } ∷ flat_map occurrences_in args
+    ≡ record { is_context = false; name = n; ctxs = cs; levels = map variable_level args } ∷ flat_map occurrences_in args
 occurrences_in-Meta n cs args =
     let e : occurrences_in (pat.Meta n cs args)
     ≡ record { is_context = false; name = n; ctxs = cs; levels = map (λ (a : Shown). a.level) (map shown args) } ∷ occurrences_shown (map shown args)

@@ -7,7 +7,8 @@ use Rattle.std.proofs.lemmas.List.Sums.{AllPass-from_list_all}
 use Rattle.std.specs.List.{list_all}
 use Rattle.mp_logic.specs.declared.sym.Sym.{Sym}
 use Rattle.mp_schema.specs.Faultless.{IsLike, AreAlike}
-use Rattle.mp_schema.specs.Faults.{same_bool, same_names, is_like, is_like_first, is_consistent}
+use Rattle.mp_schema.specs.Faults.{same_names, is_like, is_like_first, is_consistent}
+use Rattle.mp_logic.specs.Lists.{same_bool}
 use Rattle.mp_schema.specs.Occurrences.{Occurrence, first_named}
 
 -- ## Two occurrences

@@ -9,7 +9,7 @@ use Rattle.mp_schema.specs.declared.pattern.Pattern.{Pattern}
 use Rattle.mp_schema.specs.declared.schema.Item.{Item}
 use Rattle.mp_schema.specs.declared.schema.Item.TheVariants.{Ctx, Hyp}
 use Rattle.mp_schema.specs.declared.schema.Schema.{Schema}
-use Rattle.mp_schema.specs.Conditions.{has, has_all, names_in, context_names}
+use Rattle.mp_schema.specs.Conditions.{has, has_all, contexts_among, context_names}
 use Rattle.mp_schema.specs.Faultless.{IsLike, occurrence_fits}
 use Rattle.mp_schema.specs.Faults.{is_consistent}
 use Rattle.mp_schema.specs.Instances.{Values, Wide, all_pass}
@@ -80,15 +80,15 @@ some_cond true o rest = refl
 some_cond false o rest = refl
 
 -- a context among the items is one of their occurrences
-named_context : (is : List Item) (name : Sym) → has (names_in is) name ≡ true → is_some (first_named (flat_map occurrences_in_item is) name) ≡ true
+named_context : (is : List Item) (name : Sym) → has (contexts_among is) name ≡ true → is_some (first_named (flat_map occurrences_in_item is) name) ≡ true
 named_context [] name here = absurd (cc)
 named_context (Hyp p ∷ is) name here =
     named-append (occurrences_in p) (flat_map occurrences_in_item is) name ∙ or_right _ _ (named_context is name here)
 named_context (Ctx other ctxs args ∷ is) name here =
-    let later : has (names_in is) name ≡ true → is_some (first_named (flat_map occurrences_in args ++ flat_map occurrences_in_item is) name) ≡ true =
+    let later : has (contexts_among is) name ≡ true → is_some (first_named (flat_map occurrences_in args ++ flat_map occurrences_in_item is) name) ≡ true =
     λ e. named-append (flat_map occurrences_in args) (flat_map occurrences_in_item is) name ∙ or_right _ _ (named_context is name e)
     in
-    some_cond (nat_eq other.0 name.0) _ _ ∙ or_next _ (has (names_in is) name) _ here later
+    some_cond (nat_eq other.0 name.0) _ _ ∙ or_next _ (has (contexts_among is) name) _ here later
 
 -- what each second-order variable keeps, each occurrence in a pattern keeps
 module _ (kept : Occurrence → Bool) (each : (n : Sym) (cs : List Sym) (args : List Pattern) → kept (meta_at n cs args) ≡ true) where
@@ -118,13 +118,13 @@ module _ (concl : Schema) where
   abbrev known_here : Occurrence → Bool
   known_here = context_named (occurrences_in_schema concl)
 
-  known_items : (is : List Item) → has_all (context_names concl) (names_in is) ≡ true → list_all known_here (flat_map occurrences_in_item is) ≡ true
+  known_items : (is : List Item) → has_all (context_names concl) (contexts_among is) ≡ true → list_all known_here (flat_map occurrences_in_item is) ≡ true
   known_items [] e = refl
   known_items (Hyp p ∷ is) e =
       list_all-append known_here (occurrences_in p) (flat_map occurrences_in_item is)
       ∙ and_from _ _ (metas_keep known_here (λ n cs args. refl) p) (known_items is e)
   known_items (Ctx name ctxs args ∷ is) e =
-      let parts = and_parts (has (context_names concl) name) (has_all (context_names concl) (names_in is)) e in
+      let parts = and_parts (has (context_names concl) name) (has_all (context_names concl) (contexts_among is)) e in
       let here = named-append (flat_map occurrences_in_item concl.items) (occurrences_in concl.concl) name ∙ or_left _ _ (named_context concl.items name parts.0) in
       let below_it = metas_keep_all known_here (λ n cs us. refl) args in
       list_all-append known_here (occurrences_in_item (Ctx name ctxs args)) (flat_map occurrences_in_item is)

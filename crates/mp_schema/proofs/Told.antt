@@ -10,12 +10,12 @@ use Rattle.mp_schema.specs.declared.pattern.PBound.{PBound}
 use Rattle.mp_schema.specs.Conditions.{is_known, lists_known, lists_known_bound}
 use Rattle.mp_schema.specs.Induction.{OfEachBody, OfEachArg, each_pattern}
 use Rattle.mp_schema.specs.Instances.{all_pass}
-use Rattle.mp_schema.specs.Occurrences.{Occurrence, level_of, occurrences_in, occurrences_in_bound}
+use Rattle.mp_schema.specs.Occurrences.{Occurrence, variable_level, occurrences_in, occurrences_in_bound}
 use Rattle.mp_schema.proofs.Layers.{occurrences_in-Var, occurrences_in-Op, occurrences_in-Meta, occurrences_in_bound-is, lists_known-Var, lists_known-Op, lists_known-Meta, lists_known_bound-is}
 
 -- the occurrence that a second-order variable is
 abbrev pub meta_at : Sym → List Sym → List Pattern → Occurrence
-meta_at name ctxs args = record { is_context = Rattle.std.proofs.Common.false; name = name; ctxs = ctxs; levels = map level_of args }
+meta_at name ctxs args = record { is_context = Rattle.std.proofs.Common.false; name = name; ctxs = ctxs; levels = map variable_level args }
 
 -- a test of patterns that asks each second-order variable this
 pub record AsksEach (asked : Occurrence → Bool) (test : Pattern → Bool) (test_bound : PBound → Bool) : Type 0 where

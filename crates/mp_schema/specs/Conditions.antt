@@ -1,7 +1,7 @@
 -- What building asks of a schema, and matching of a conclusion or a redex.
 use Rattle.std.specs.Prelude.{ℕ, ◌+◌, List, [], ◌∷◌, map, length, Bool, true, false, ◌&&◌, ◌||◌, not, nat_lt, nat_le, nat_eq, Option, Some, None}
 use Rattle.mp_logic.specs.declared.sym.Sym.{Sym}
-use Rattle.mp_term.specs.Terms.{Scoped, at_scope}
+use Rattle.mp_term.specs.Terms.{ScopeTest, all_at_scope}
 use Rattle.mp_schema.specs.declared.pattern.Pattern.{Pattern, Pattern-F}
 use Rattle.mp_schema.specs.declared.pattern.PBound.{PBound, PBound-F}
 use Rattle.mp_schema.specs.declared.pattern.Pattern.TheOpen as layer
@@ -14,22 +14,22 @@ use Rattle.mp_schema.specs.Instances.{all_pass}
 -- ## Variables in range
 
 -- one layer of a pattern is in range if its variable and its parts are
-abbrev pub below_step : Pattern-F Scoped Scoped → Scoped
+abbrev pub below_step : Pattern-F ScopeTest ScopeTest → ScopeTest
 below_step (layer.Var level) d = nat_lt level d
-below_step (layer.Op op params subs) d = at_scope d subs
-below_step (layer.Meta name ctxs args) d = at_scope d args
+below_step (layer.Op op params subs) d = all_at_scope d subs
+below_step (layer.Meta name ctxs args) d = all_at_scope d args
 
 -- a body may use its binders too
-abbrev pub below_bound_step : PBound-F Scoped Scoped → Scoped
+abbrev pub below_bound_step : PBound-F ScopeTest ScopeTest → ScopeTest
 below_bound_step b d = b.body (d + b.binders)
 
 -- each variable of the pattern is one of d levels or a binder before it
-abbrev pub below : Pattern → Scoped
-below = fold-Pattern Scoped Scoped below_step below_bound_step
+abbrev pub below : Pattern → ScopeTest
+below = fold-Pattern ScopeTest ScopeTest below_step below_bound_step
 
 -- each variable of the bound body is one of d levels or a binder before it
-abbrev pub below_bound : PBound → Scoped
-below_bound = fold-PBound Scoped Scoped below_step below_bound_step
+abbrev pub below_bound : PBound → ScopeTest
+below_bound = fold-PBound ScopeTest ScopeTest below_step below_bound_step
 
 -- ## Lists of contexts
 
@@ -89,9 +89,9 @@ apart_from x [] = true
 apart_from x (y ∷ ys) = not (nat_eq x y) && apart_from x ys
 
 -- the pattern is a variable below d
-abbrev pub is_variable : ℕ → Option ℕ → Bool
-is_variable d None = false
-is_variable d (Some level) = nat_lt level d
+abbrev pub is_level_below : ℕ → Option ℕ → Bool
+is_level_below d None = false
+is_level_below d (Some level) = nat_lt level d
 
 -- the level, or 0 if there is none
 abbrev pub or_zero : Option ℕ → ℕ
@@ -101,7 +101,7 @@ or_zero (Some level) = level
 -- each of the patterns is a variable below d
 abbrev pub all_variables : ℕ → List Seen → Bool
 all_variables d [] = true
-all_variables d (a ∷ rest) = is_variable d a.level && all_variables d rest
+all_variables d (a ∷ rest) = is_level_below d a.level && all_variables d rest
 
 -- no level is in the list twice
 abbrev pub all_apart : List ℕ → Bool
@@ -195,14 +195,14 @@ abbrev pub is_fine : Schema → Bool
 is_fine s = each_item item_fine s.items nothing_before && (seen s.concl).fine (past_all s.items nothing_before).named
 
 -- the names of the contexts among the items, in order
-abbrev pub names_in : List Item → List Sym
-names_in [] = []
-names_in (Hyp p ∷ is) = names_in is
-names_in (Ctx name ctxs args ∷ is) = name ∷ names_in is
+abbrev pub contexts_among : List Item → List Sym
+contexts_among [] = []
+contexts_among (Hyp p ∷ is) = contexts_among is
+contexts_among (Ctx name ctxs args ∷ is) = name ∷ contexts_among is
 
 -- the names of the contexts of a schema
 abbrev pub context_names : Schema → List Sym
-context_names s = names_in s.items
+context_names s = contexts_among s.items
 
 -- exactly two items are contexts
 abbrev pub has_two_contexts : Schema → Bool

@@ -3,7 +3,7 @@ use Rattle.std.specs.Prelude.{ℕ, List, [], ◌∷◌, ◌++◌, map, length, B
 use Rattle.std.specs.List.{list_all, flat_map}
 use Rattle.std.specs.Option.{is_some}
 use Rattle.mp_logic.specs.declared.sym.Sym.{Sym}
-use Rattle.mp_term.specs.Terms.{at_scope}
+use Rattle.mp_term.specs.Terms.{all_at_scope}
 use Rattle.mp_schema.specs.declared.pattern.Pattern.{Pattern}
 use Rattle.mp_schema.specs.declared.schema.Item.{Item}
 use Rattle.mp_schema.specs.declared.schema.Item.TheVariants.{Ctx, Hyp}
@@ -14,13 +14,14 @@ use Rattle.mp_schema.specs.Conditions.{Before, nothing_before, past_all, each_it
 use Rattle.mp_schema.specs.Limits.{few_of, few_of_schema, is_shallow_pattern, is_shallow_schema, is_small_pattern, is_small_schema}
 use Rattle.mp_schema.specs.Occurrences.{Occurrence, occurrences_in, occurrences_in_item, occurrences_in_schema, first_named, holes_in, holes_in_schema}
 use Rattle.mp_schema.specs.declared.limits.TheConstants.{MOST_PREMISES, MOST_CONDITIONS}
+use Rattle.mp_logic.specs.Lists.{same_bool}
 
 -- ## What a schema keeps
 
 -- each variable of an item is a named hypothesis or a binder before it
 abbrev pub item_closed : Item → Before → Bool
 item_closed (Hyp p) b = below p b.named
-item_closed (Ctx name ctxs args) b = at_scope b.named (map below args)
+item_closed (Ctx name ctxs args) b = all_at_scope b.named (map below args)
 
 -- each variable of the schema is a named hypothesis or a binder before it
 abbrev pub is_closed : Schema → Bool
@@ -63,11 +64,6 @@ are_distinct (Some level ∷ rest) = not (has_level rest level) && are_distinct 
 -- each second-order variable and each context is applied to distinct variables
 abbrev pub on_variables : List Occurrence → Bool
 on_variables os = list_all (λ (o : Occurrence). are_distinct o.levels) os
-
--- the answers are the same
-abbrev pub same_bool : Bool → Bool → Bool
-same_bool true b = b
-same_bool false b = not b
 
 -- the lists have the same names in the same order
 abbrev pub same_names : List Sym → List Sym → Bool

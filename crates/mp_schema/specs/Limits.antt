@@ -1,7 +1,7 @@
 -- The limits of patterns and schemata, each as a test.
 use Rattle.std.specs.Prelude.{ℕ, ◌+◌, sum, map, length, Bool, true, nat_le, ◌&&◌}
 use Rattle.std.specs.List.{list_all}
-use Rattle.mp_term.specs.Terms.{greatest}
+use Rattle.mp_logic.specs.Lists.{greatest}
 use Rattle.mp_schema.specs.declared.pattern.Pattern.{Pattern, Pattern-F}
 use Rattle.mp_schema.specs.declared.pattern.PBound.{PBound, PBound-F}
 use Rattle.mp_schema.specs.declared.pattern.Pattern.TheOpen as layer
@@ -46,8 +46,8 @@ few_of_schema s = nat_le (length s.items) MOST_ITEMS && list_all few_of_item s.i
 -- ## How deep
 
 -- a body is as deep as its pattern
-abbrev pub body_step : PBound-F ℕ ℕ → ℕ
-body_step b = b.body
+abbrev pub pattern_body_step : PBound-F ℕ ℕ → ℕ
+pattern_body_step b = b.body
 
 -- the depth of one layer, from the depths of its parts
 abbrev pub pattern_depth_step : Pattern-F ℕ ℕ → ℕ
@@ -57,11 +57,11 @@ pattern_depth_step (layer.Meta name ctxs args) = 1 + greatest args
 
 -- a variable's depth is 1, and that of another pattern is 1 more than that of its deepest body or argument
 abbrev pub pattern_depth_of : Pattern → ℕ
-pattern_depth_of = fold-Pattern ℕ ℕ pattern_depth_step body_step
+pattern_depth_of = fold-Pattern ℕ ℕ pattern_depth_step pattern_body_step
 
 -- the depth of a bound body
 abbrev pub pattern_depth_of_bound : PBound → ℕ
-pattern_depth_of_bound = fold-PBound ℕ ℕ pattern_depth_step body_step
+pattern_depth_of_bound = fold-PBound ℕ ℕ pattern_depth_step pattern_body_step
 
 -- the arguments of a context are one deeper than the context
 abbrev pub item_depth_of : Item → ℕ
@@ -90,11 +90,11 @@ pattern_size_step (layer.Meta name ctxs args) = 1 + sum args
 
 -- the number of variables, operators and second-order variables
 abbrev pub pattern_size_of : Pattern → ℕ
-pattern_size_of = fold-Pattern ℕ ℕ pattern_size_step body_step
+pattern_size_of = fold-Pattern ℕ ℕ pattern_size_step pattern_body_step
 
 -- the size of a bound body
 abbrev pub pattern_size_of_bound : PBound → ℕ
-pattern_size_of_bound = fold-PBound ℕ ℕ pattern_size_step body_step
+pattern_size_of_bound = fold-PBound ℕ ℕ pattern_size_step pattern_body_step
 
 -- a context isn't counted, and its arguments are
 abbrev pub item_size_of : Item → ℕ

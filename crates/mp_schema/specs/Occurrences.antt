@@ -54,8 +54,8 @@ abbrev pub occurrences_in_bound : PBound → List Occurrence
 occurrences_in_bound = fold-PBound Shown (List Occurrence) shown_step shown_bound_step
 
 -- the level of a pattern that is a variable
-abbrev pub level_of : Pattern → Option ℕ
-level_of p = (shown p).level
+abbrev pub variable_level : Pattern → Option ℕ
+variable_level p = (shown p).level
 
 -- the second-order variables of a pattern, in the order of the text
 abbrev pub occurrences_in : Pattern → List Occurrence
@@ -65,7 +65,7 @@ occurrences_in p = (shown p).occurrences
 abbrev pub occurrences_in_item : Item → List Occurrence
 occurrences_in_item (Hyp p) = occurrences_in p
 occurrences_in_item (Ctx name ctxs args) =
-    record { is_context = true; name = name; ctxs = ctxs; levels = map level_of args } ∷ flat_map occurrences_in args
+    record { is_context = true; name = name; ctxs = ctxs; levels = map variable_level args } ∷ flat_map occurrences_in args
 
 -- the occurrences in all items of a schema, and then in its conclusion
 abbrev pub occurrences_in_schema : Schema → List Occurrence

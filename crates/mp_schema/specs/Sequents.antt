@@ -11,6 +11,7 @@ use Rattle.mp_schema.specs.declared.schema.Item.{Item}
 use Rattle.mp_schema.specs.declared.schema.Item.TheVariants.{Ctx, Hyp}
 use Rattle.mp_schema.specs.declared.schema.Schema.{Schema}
 use Rattle.mp_schema.specs.Instances.{Values, Ground, made_each, upto, inst_of, fits, all_pass}
+use Rattle.mp_logic.specs.Lists.{joined}
 
 -- an instance: an ambient scope, a term for each second-order variable and a parameter for each hole, and the
 -- hypotheses that are kept of each context
@@ -18,11 +19,6 @@ pub record Instance : Type 0 where
   pub ambient : ℕ
   pub values : Values
   pub kept : Sym → List Term
-
--- the lists, one after the other
-abbrev pub joined : List (List ℕ) → List ℕ
-joined [] = []
-joined (x ∷ xs) = x ++ joined xs
 
 -- the variables that a value has before its arguments, if the contexts begin at these levels: the ambient
 -- ones, and those of each context in the list

@@ -9,7 +9,8 @@ use Rattle.mp_schema.specs.declared.instance.MetaVal.{MetaVal}
 use Rattle.mp_schema.specs.declared.instance.ParamVal.{ParamVal}
 use Rattle.mp_schema.specs.declared.instance.Inst.{Inst}
 use Rattle.mp_schema.specs.Instances.{Values, upto}
-use Rattle.mp_schema.specs.Sequents.{Instance, joined}
+use Rattle.mp_schema.specs.Sequents.{Instance}
+use Rattle.mp_logic.specs.Lists.{joined}
 
 -- the first value of this name
 abbrev pub find_meta : List MetaVal → Sym → Option MetaVal
@@ -50,8 +51,8 @@ abbrev pub kept_of : List CtxVal → Sym → List Term
 kept_of ctxs name = kept_or (find_ctx ctxs name)
 
 -- the level of each context's first variable in the goal
-abbrev pub first_of : List CtxVal → Sym → ℕ
-first_of ctxs name = first_or (find_ctx ctxs name)
+abbrev pub first_variable_of : List CtxVal → Sym → ℕ
+first_variable_of ctxs name = first_or (find_ctx ctxs name)
 
 -- the instance that is found
 abbrev pub instance_of : Inst → Instance
@@ -59,4 +60,4 @@ instance_of i = record { ambient = i.ambient; values = values_of i.metas i.param
 
 -- the variables of the contexts in the goal, one context after the other
 abbrev pub variables_of : List CtxVal → List Sym → List ℕ
-variables_of ctxs names = joined (map (λ c. upto (first_of ctxs c) (length (kept_of ctxs c))) names)
+variables_of ctxs names = joined (map (λ c. upto (first_variable_of ctxs c) (length (kept_of ctxs c))) names)

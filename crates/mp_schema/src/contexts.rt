@@ -1,5 +1,5 @@
 ghost use Rattle.std.specs.Prelude.{◌≡◌, length};
-ghost use Rattle.mp_schema.specs.Conditions.{nothing_before, each_item, item_between, names_in, context_names, has_all, has_two_contexts, is_apart, is_framed};
+ghost use Rattle.mp_schema.specs.Conditions.{nothing_before, each_item, item_between, contexts_among, context_names, has_all, has_two_contexts, is_apart, is_framed};
 ghost use Rattle.mp_schema.specs.Faults.{is_listed, is_single};
 
 use crate::demand::{Demand, item_keeps, pattern_keeps, schema_keeps};
@@ -13,7 +13,7 @@ pub(crate) struct Listed<'a> {
 }
 
 impl Demand for Listed<'_> {
-    ghost keeps = { λ demand o. has_all (names_in demand.before.now) o.ctxs };
+    ghost keeps = { λ demand o. has_all (contexts_among demand.before.now) o.ctxs };
 
     fn is_kept(&self, place: Place<'_>) -> bool {
         are_contexts(self.before, place.ctxs)
@@ -56,7 +56,7 @@ pub(crate) fn is_schema_single(s: &Schema) -> bool
 }
 
 fn are_contexts_apart(items: &[Item]) -> bool
-    ensures { result ≡ is_apart (names_in items.now) }
+    ensures { result ≡ is_apart (contexts_among items.now) }
 {
     for (i, item) in items.iter().enumerate() {
         if let Item::Ctx { name, .. } = item
@@ -84,7 +84,7 @@ pub(crate) fn has_contexts_of(concl: &Schema, premise: &Schema) -> bool
 
 // The number of contexts among the items.
 pub(crate) fn count_contexts(items: &[Item]) -> u64
-    ensures { result ≡ length (names_in items.now) }
+    ensures { result ≡ length (contexts_among items.now) }
 {
     let mut contexts = 0u64;
     for item in items {

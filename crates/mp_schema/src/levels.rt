@@ -1,5 +1,5 @@
 ghost use Rattle.std.specs.Prelude.{◌≡◌, ℕ, map, min};
-ghost use Rattle.mp_term.specs.Terms.{at_scope};
+ghost use Rattle.mp_term.specs.Terms.{all_at_scope};
 ghost use Rattle.mp_schema.specs.Conditions.{Before, below, below_bound};
 ghost use Rattle.mp_schema.specs.Faults.{item_closed, is_closed};
 
@@ -47,7 +47,7 @@ pub(crate) fn is_pattern_closed(p: &Pattern, levels: u64) -> bool
 
 #[cycle(closed)]
 fn are_bodies_closed(subs: &[PBound], levels: u64) -> bool
-    ensures { (n : ℕ) → min n WIDEST ≡ levels → result ≡ at_scope n (map below_bound subs.now) }
+    ensures { (n : ℕ) → min n WIDEST ≡ levels → result ≡ all_at_scope n (map below_bound subs.now) }
 {
     for sub in subs {
         let inner = levels.saturating_add(sub.binders as u64).min(WIDEST);
@@ -60,7 +60,7 @@ fn are_bodies_closed(subs: &[PBound], levels: u64) -> bool
 
 #[cycle(closed)]
 fn are_arguments_closed(args: &[Pattern], levels: u64) -> bool
-    ensures { (n : ℕ) → min n WIDEST ≡ levels → result ≡ at_scope n (map below args.now) }
+    ensures { (n : ℕ) → min n WIDEST ≡ levels → result ≡ all_at_scope n (map below args.now) }
 {
     for arg in args {
         if !is_pattern_closed(arg, levels) {

@@ -1,7 +1,7 @@
 ghost use Rattle.std.specs.Prelude.{◌≡◌, ◌+◌, ◌&&◌, ◌≤◌, length, map, sum, nat_le};
 ghost use Rattle.std.specs.List.{list_all};
 ghost use Rattle.mp_logic.specs.Trees.{counted};
-ghost use Rattle.mp_term.specs.Terms.{greatest};
+ghost use Rattle.mp_logic.specs.Lists.{greatest};
 ghost use Rattle.mp_schema.specs.Instances.{all_pass};
 ghost use Rattle.mp_schema.specs.Limits.{few_of, few_of_bound, few_of_item, few_of_schema, pattern_depth_of, pattern_depth_of_bound, is_shallow_pattern, is_shallow_item, is_shallow_schema, pattern_size_of, pattern_size_of_bound, item_size_of, schema_size_of, is_small_pattern, is_small_schema};
 

@@ -1,6 +1,6 @@
 ghost use Rattle.std.specs.Prelude.{◌≡◌, map};
-ghost use Rattle.mp_schema.specs.Conditions.{has, has_all, is_apart, names_in};
-ghost use Rattle.mp_schema.specs.Occurrences.{level_of};
+ghost use Rattle.mp_schema.specs.Conditions.{has, has_all, is_apart, contexts_among};
+ghost use Rattle.mp_schema.specs.Occurrences.{variable_level};
 ghost use Rattle.mp_schema.specs.Faults.{has_level, are_distinct, is_like};
 ghost use Rattle.mp_schema.specs.Places.{occurrence_at};
 
@@ -28,7 +28,7 @@ impl<'a> Place<'a> {
         ctxs: &'a List<Sym>,
         args: &'a List<Pattern>,
     ) -> Place<'a>
-        ensures { occurrence_at result ≡ record { is_context = is_context; name = name; ctxs = ctxs.now; levels = map level_of args.now } }
+        ensures { occurrence_at result ≡ record { is_context = is_context; name = name; ctxs = ctxs.now; levels = map variable_level args.now } }
     {
         Place {
             is_context,
@@ -73,7 +73,7 @@ fn has_name(names: &[Sym], name: Sym) -> bool
 
 // Whether each of the names is a context among the items.
 pub(crate) fn are_contexts(items: &[Item], names: &[Sym]) -> bool
-    ensures { result ≡ has_all (names_in items.now) names.now }
+    ensures { result ≡ has_all (contexts_among items.now) names.now }
 {
     for name in names {
         if !is_context(items, *name) {
@@ -85,7 +85,7 @@ pub(crate) fn are_contexts(items: &[Item], names: &[Sym]) -> bool
 
 // Whether the name is a context among the items.
 pub(crate) fn is_context(items: &[Item], name: Sym) -> bool
-    ensures { result ≡ has (names_in items.now) name }
+    ensures { result ≡ has (contexts_among items.now) name }
 {
     for item in items {
         if let Item::Ctx { name: other, .. } = item
@@ -99,7 +99,7 @@ pub(crate) fn is_context(items: &[Item], name: Sym) -> bool
 
 // Whether the arguments are distinct variables.
 pub(crate) fn are_distinct_variables(args: &[Pattern]) -> bool
-    ensures { result ≡ are_distinct (map level_of args.now) }
+    ensures { result ≡ are_distinct (map variable_level args.now) }
 {
     for (i, arg) in args.iter().enumerate() {
         match arg {
@@ -115,7 +115,7 @@ pub(crate) fn are_distinct_variables(args: &[Pattern]) -> bool
 }
 
 fn has_variable(args: &[Pattern], level: u32) -> bool
-    ensures { result ≡ has_level (map level_of args.now) level }
+    ensures { result ≡ has_level (map variable_level args.now) level }
 {
     for arg in args {
         if let Pattern::Var(other) = arg

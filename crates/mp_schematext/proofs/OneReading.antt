@@ -17,7 +17,7 @@ use Rattle.mp_schematext.specs.declared.raw.RawPatternBound.{RawPatternBound}
 use Rattle.mp_schematext.specs.declared.raw.RawPattern.{RawPattern, Var, Op, Meta}
 use Rattle.mp_schematext.specs.declared.raw.RawItem.TheVariants as item
 use Rattle.mp_schematext.specs.declared.raw.RawSchema.{RawSchema}
-use Rattle.mp_schematext.specs.Grammar.{IsParamPatWord, IsParamPat, StuckParamPat, AreParamPats, StuckParamPats, AreContexts, StuckContexts, IsPattern, AreArguments, AreArgs, AreSubs, AreBounds, IsBound, StuckPattern, StuckArguments, StuckArgs, StuckSubs, StuckBounds, StuckBound, variable, second_order, operator, no_arguments, some_arguments, last_arg, more_args, no_subs, some_subs, last_bound, more_bounds, bound, no_pattern, in_contexts, in_arguments, in_params, in_subs, in_brackets, in_arg, behind_arg, in_other_args, in_braces, in_bound, behind_bound, in_other_bounds, in_binders, in_body, IsContext, StuckContext, IsHypothesis, StuckHypothesis, IsItem, StuckItem, AreItems, StuckItems, IsSchema, StuckSchema, ArePremises, StuckPremises, IsRule, StuckRule, IsTheory, StuckTheory}
+use Rattle.mp_schematext.specs.Grammar.{IsParamPatWord, IsParamPat, StuckParamPat, AreParamPats, StuckParamPats, AreContexts, StuckContexts, IsPattern, AreArguments, AreArgs, ArePatternSubs, ArePatternBounds, IsPatternBound, StuckPattern, StuckArguments, StuckArgs, StuckPatternSubs, StuckPatternBounds, StuckPatternBound, variable, second_order, operator, no_arguments, some_arguments, last_arg, more_args, no_subs, some_subs, last_bound, more_bounds, bound, no_pattern, in_contexts, in_arguments, in_params, in_subs, in_brackets, in_arg, behind_arg, in_other_args, in_braces, in_bound, behind_bound, in_other_bounds, in_binders, in_body, IsContext, StuckContext, IsHypothesis, StuckHypothesis, IsItem, StuckItem, AreItems, StuckItems, IsSchema, StuckSchema, ArePremises, StuckPremises, IsRule, StuckRule, IsTheory, StuckTheory}
 
 variable_has_one : HasOne IsVariable
 variable_has_one v w ts r s h k = let a : v.0 ≡ w.0 = cc in let b : v.1 ≡ w.1 = cc in let c : r ≡ s = cc in ((λ i. (a i, b i)), c)
@@ -104,7 +104,7 @@ mutual
   pattern_has_one t t' ts r s (operator _ _ _ n ps ks us vs a b c d) (operator _ _ _ n' ps' ks' us' vs' a' b' c' d') =
       let e = one_name.value n n' ts us us' b b' in
       let f = one_param_pats.value ps ps' us' vs vs' (subst (λ ws. AreParamPats ps ws vs) e.1 c) c' in
-      let g = subs_has_one ks ks' vs r s d (subst (λ ws. AreSubs ks' ws s) (sym f.1) d') in
+      let g = subs_has_one ks ks' vs r s d (subst (λ ws. ArePatternSubs ks' ws s) (sym f.1) d') in
       (a ∙ (λ i. Op (e.0 i) (f.0 i) (g.0 i) (length ts)) ∙ sym a', g.1)
 
   arguments_has_one : (xs ys : List RawPattern) (ts r s : List Word) → AreArguments xs ts r → AreArguments ys ts s → (xs ≡ ys) × (r ≡ s)
@@ -128,14 +128,14 @@ mutual
       let g = args_has_one others others' vs r s l (subst (λ ws. AreArgs others' ws s) (sym f) l') in
       (a ∙ (λ i. e.0 i ∷ g.0 i) ∙ sym a', g.1)
 
-  subs_has_one : (xs ys : List RawPatternBound) (ts r s : List Word) → AreSubs xs ts r → AreSubs ys ts s → (xs ≡ ys) × (r ≡ s)
+  subs_has_one : (xs ys : List RawPatternBound) (ts r s : List Word) → ArePatternSubs xs ts r → ArePatternSubs ys ts s → (xs ≡ ys) × (r ≡ s)
   subs_has_one xs ys ts r s (no_subs _ _ _ a n b) (no_subs _ _ _ a' n' b') = (a ∙ sym a', b ∙ sym b')
   subs_has_one xs ys ts r s (no_subs _ _ _ a n b) (some_subs _ _ _ us' m' h') = absurd (n us' m')
   subs_has_one xs ys ts r s (some_subs _ _ _ us m h) (no_subs _ _ _ a' n' b') = absurd (n' us m)
   subs_has_one xs ys ts r s (some_subs _ _ _ us m h) (some_subs _ _ _ us' m' h') =
-      bounds_has_one xs ys us r s h (subst (λ ws. AreBounds ys ws s) (one_mark mark.OpenBrace ts us' us m' m) h')
+      bounds_has_one xs ys us r s h (subst (λ ws. ArePatternBounds ys ws s) (one_mark mark.OpenBrace ts us' us m' m) h')
 
-  bounds_has_one : (xs ys : List RawPatternBound) (ts r s : List Word) → AreBounds xs ts r → AreBounds ys ts s → (xs ≡ ys) × (r ≡ s)
+  bounds_has_one : (xs ys : List RawPatternBound) (ts r s : List Word) → ArePatternBounds xs ts r → ArePatternBounds ys ts s → (xs ≡ ys) × (r ≡ s)
   bounds_has_one xs ys ts r s (last_bound _ _ _ x us a h m) (last_bound _ _ _ x' us' a' h' m') =
       let e = bound_has_one x x' ts us us' h h' in
       (a ∙ ap (λ y. y ∷ []) e.0 ∙ sym a', one_mark mark.CloseBrace us' r s (subst (λ ws. IsMark mark.CloseBrace ws r) e.1 m) m')
@@ -146,10 +146,10 @@ mutual
   bounds_has_one xs ys ts r s (more_bounds _ _ _ x others us vs a h m l) (more_bounds _ _ _ x' others' us' vs' a' h' m' l') =
       let e = bound_has_one x x' ts us us' h h' in
       let f = one_mark mark.Semicolon us' vs vs' (subst (λ ws. IsMark mark.Semicolon ws vs) e.1 m) m' in
-      let g = bounds_has_one others others' vs r s l (subst (λ ws. AreBounds others' ws s) (sym f) l') in
+      let g = bounds_has_one others others' vs r s l (subst (λ ws. ArePatternBounds others' ws s) (sym f) l') in
       (a ∙ (λ i. e.0 i ∷ g.0 i) ∙ sym a', g.1)
 
-  bound_has_one : (k k' : RawPatternBound) (ts r s : List Word) → IsBound k ts r → IsBound k' ts s → (k ≡ k') × (r ≡ s)
+  bound_has_one : (k k' : RawPatternBound) (ts r s : List Word) → IsPatternBound k ts r → IsPatternBound k' ts s → (k ≡ k') × (r ≡ s)
   bound_has_one k k' ts r s (bound _ _ _ bs x us a b h) (bound _ _ _ bs' x' us' a' b' h') =
       let e = one_binders.value bs bs' ts us us' b b' in
       let f = pattern_has_one x x' us r s h (subst (λ ws. IsPattern x' ws s) (sym e.1) h') in
@@ -179,7 +179,7 @@ mutual
   pattern_apart t ts r s (in_subs _ _ n ps' us' vs' h g l) (operator _ _ _ m ps ks us vs a b c d) =
       let e = one_name.value n m ts us' us h b in
       let f = one_param_pats.value ps' ps us vs' vs (subst (λ ws. AreParamPats ps' ws vs') e.1 g) c in
-      subs_apart ks vs' r s l (subst (λ ws. AreSubs ks ws r) (sym f.1) d)
+      subs_apart ks vs' r s l (subst (λ ws. ArePatternSubs ks ws r) (sym f.1) d)
 
   arguments_apart : (xs : List RawPattern) (ts r s : List Word) → StuckArguments ts s → AreArguments xs ts r → ⊥
   arguments_apart xs ts r s (in_brackets _ _ us h l) (no_arguments _ _ _ a n b) = n us h
@@ -200,12 +200,12 @@ mutual
       let f = one_mark mark.Semicolon us' vs vs' (subst (λ ws. IsMark mark.Semicolon ws vs) (sym e.1) m) n in
       args_apart others vs' r s l (subst (λ ws. AreArgs others ws r) f k)
 
-  subs_apart : (xs : List RawPatternBound) (ts r s : List Word) → StuckSubs ts s → AreSubs xs ts r → ⊥
+  subs_apart : (xs : List RawPatternBound) (ts r s : List Word) → StuckPatternSubs ts s → ArePatternSubs xs ts r → ⊥
   subs_apart xs ts r s (in_braces _ _ us h l) (no_subs _ _ _ a n b) = n us h
   subs_apart xs ts r s (in_braces _ _ us h l) (some_subs _ _ _ us' m k) =
-      bounds_apart xs us r s l (subst (λ ws. AreBounds xs ws r) (one_mark mark.OpenBrace ts us' us m h) k)
+      bounds_apart xs us r s l (subst (λ ws. ArePatternBounds xs ws r) (one_mark mark.OpenBrace ts us' us m h) k)
 
-  bounds_apart : (xs : List RawPatternBound) (ts r s : List Word) → StuckBounds ts s → AreBounds xs ts r → ⊥
+  bounds_apart : (xs : List RawPatternBound) (ts r s : List Word) → StuckPatternBounds ts s → ArePatternBounds xs ts r → ⊥
   bounds_apart xs ts r s (in_bound _ _ l) (last_bound _ _ _ x us a h m) = bound_apart x ts us s l h
   bounds_apart xs ts r s (in_bound _ _ l) (more_bounds _ _ _ x others us vs a h m k) = bound_apart x ts us s l h
   bounds_apart xs ts r s (behind_bound _ _ y g nc ns) (last_bound _ _ _ x us a h m) =
@@ -217,9 +217,9 @@ mutual
   bounds_apart xs ts r s (in_other_bounds _ _ y us' vs' g n l) (more_bounds _ _ _ x others us vs a h m k) =
       let e = bound_has_one y x ts us' us g h in
       let f = one_mark mark.Semicolon us' vs vs' (subst (λ ws. IsMark mark.Semicolon ws vs) (sym e.1) m) n in
-      bounds_apart others vs' r s l (subst (λ ws. AreBounds others ws r) f k)
+      bounds_apart others vs' r s l (subst (λ ws. ArePatternBounds others ws r) f k)
 
-  bound_apart : (k : RawPatternBound) (ts r s : List Word) → StuckBound ts s → IsBound k ts r → ⊥
+  bound_apart : (k : RawPatternBound) (ts r s : List Word) → StuckPatternBound ts s → IsPatternBound k ts r → ⊥
   bound_apart k ts r s (in_binders _ _ l) (bound _ _ _ bs x us a b h) = one_binders.apart bs ts us s l b
   bound_apart k ts r s (in_body _ _ bs' us' g l) (bound _ _ _ bs x us a b h) =
       let e = one_binders.value bs' bs ts us' us g b in pattern_apart x us' r s l (subst (λ ws. IsPattern x ws r) (sym e.1) h)
@@ -262,7 +262,7 @@ mutual
   pattern_stop ts r s (in_subs _ _ n ps us vs h g l) (in_subs _ _ n' ps' us' vs' h' g' l') =
       let e = one_name.value n n' ts us us' h h' in
       let f = one_param_pats.value ps ps' us' vs vs' (subst (λ ws. AreParamPats ps ws vs) e.1 g) g' in
-      subs_stop vs' r s (subst (λ ws. StuckSubs ws r) f.1 l) l'
+      subs_stop vs' r s (subst (λ ws. StuckPatternSubs ws r) f.1 l) l'
 
   arguments_stop : (ts r s : List Word) → StuckArguments ts r → StuckArguments ts s → r ≡ s
   arguments_stop ts r s (in_brackets _ _ us h l) (in_brackets _ _ us' h' l') =
@@ -284,11 +284,11 @@ mutual
       let f = one_mark mark.Semicolon us' vs vs' (subst (λ ws. IsMark mark.Semicolon ws vs) e.1 n) n' in
       args_stop vs' r s (subst (λ ws. StuckArgs ws r) f l) l'
 
-  subs_stop : (ts r s : List Word) → StuckSubs ts r → StuckSubs ts s → r ≡ s
+  subs_stop : (ts r s : List Word) → StuckPatternSubs ts r → StuckPatternSubs ts s → r ≡ s
   subs_stop ts r s (in_braces _ _ us h l) (in_braces _ _ us' h' l') =
-      bounds_stop us' r s (subst (λ ws. StuckBounds ws r) (one_mark mark.OpenBrace ts us us' h h') l) l'
+      bounds_stop us' r s (subst (λ ws. StuckPatternBounds ws r) (one_mark mark.OpenBrace ts us us' h h') l) l'
 
-  bounds_stop : (ts r s : List Word) → StuckBounds ts r → StuckBounds ts s → r ≡ s
+  bounds_stop : (ts r s : List Word) → StuckPatternBounds ts r → StuckPatternBounds ts s → r ≡ s
   bounds_stop ts r s (in_bound _ _ l) (in_bound _ _ l') = bound_stop ts r s l l'
   bounds_stop ts r s (in_bound _ _ l) (behind_bound _ _ y' g' nc' ns') = absurd (bound_apart y' ts s r l g')
   bounds_stop ts r s (in_bound _ _ l) (in_other_bounds _ _ y' us' vs' g' n' l') = absurd (bound_apart y' ts us' r l g')
@@ -302,9 +302,9 @@ mutual
   bounds_stop ts r s (in_other_bounds _ _ y us vs g n l) (in_other_bounds _ _ y' us' vs' g' n' l') =
       let e = bound_has_one y y' ts us us' g g' in
       let f = one_mark mark.Semicolon us' vs vs' (subst (λ ws. IsMark mark.Semicolon ws vs) e.1 n) n' in
-      bounds_stop vs' r s (subst (λ ws. StuckBounds ws r) f l) l'
+      bounds_stop vs' r s (subst (λ ws. StuckPatternBounds ws r) f l) l'
 
-  bound_stop : (ts r s : List Word) → StuckBound ts r → StuckBound ts s → r ≡ s
+  bound_stop : (ts r s : List Word) → StuckPatternBound ts r → StuckPatternBound ts s → r ≡ s
   bound_stop ts r s (in_binders _ _ l) (in_binders _ _ l') = one_binders.stop ts r s l l'
   bound_stop ts r s (in_binders _ _ l) (in_body _ _ bs' us' g' l') = absurd (one_binders.apart bs' ts us' r l g')
   bound_stop ts r s (in_body _ _ bs us g l) (in_binders _ _ l') = absurd (one_binders.apart bs ts us s l' g)

@@ -55,7 +55,7 @@ mutual
   pub data IsPattern : RawPattern → List Word → List Word → Type 0 where
     variable : (t : RawPattern) (ts rest : List Word) (n : Sym) (k : Option ℕ) → t ≡ Var n (length ts) → IsVariable (n, k) ts rest → IsPattern t ts rest
     second_order : (t : RawPattern) (ts rest : List Word) (n : Sym) (cs : List RawName) (xs : List RawPattern) (us vs : List Word) → t ≡ Meta n cs xs (length ts) → IsCapVar n ts us → AreContexts cs us vs → AreArguments xs vs rest → IsPattern t ts rest
-    operator : (t : RawPattern) (ts rest : List Word) (n : Sym) (ps : List RawParamPat) (ks : List RawPatternBound) (us vs : List Word) → t ≡ Op n ps ks (length ts) → IsName n ts us → AreParamPats ps us vs → AreSubs ks vs rest → IsPattern t ts rest
+    operator : (t : RawPattern) (ts rest : List Word) (n : Sym) (ps : List RawParamPat) (ks : List RawPatternBound) (us vs : List Word) → t ≡ Op n ps ks (length ts) → IsName n ts us → AreParamPats ps us vs → ArePatternSubs ks vs rest → IsPattern t ts rest
 
   -- the arguments in brackets, or nothing
   pub data AreArguments : List RawPattern → List Word → List Word → Type 0 where
@@ -68,18 +68,18 @@ mutual
     more_args : (xs : List RawPattern) (ts rest : List Word) (x : RawPattern) (others : List RawPattern) (us vs : List Word) → xs ≡ x ∷ others → IsPattern x ts us → IsMark mark.Semicolon us vs → AreArgs others vs rest → AreArgs xs ts rest
 
   -- the subterms in braces, or nothing
-  pub data AreSubs : List RawPatternBound → List Word → List Word → Type 0 where
-    no_subs : (ks : List RawPatternBound) (ts rest : List Word) → ks ≡ [] → No (IsMark mark.OpenBrace) ts → rest ≡ ts → AreSubs ks ts rest
-    some_subs : (ks : List RawPatternBound) (ts rest : List Word) (us : List Word) → IsMark mark.OpenBrace ts us → AreBounds ks us rest → AreSubs ks ts rest
+  pub data ArePatternSubs : List RawPatternBound → List Word → List Word → Type 0 where
+    no_subs : (ks : List RawPatternBound) (ts rest : List Word) → ks ≡ [] → No (IsMark mark.OpenBrace) ts → rest ≡ ts → ArePatternSubs ks ts rest
+    some_subs : (ks : List RawPatternBound) (ts rest : List Word) (us : List Word) → IsMark mark.OpenBrace ts us → ArePatternBounds ks us rest → ArePatternSubs ks ts rest
 
   -- the subterms one after the other, and then the end of their list
-  pub data AreBounds : List RawPatternBound → List Word → List Word → Type 0 where
-    last_bound : (ks : List RawPatternBound) (ts rest : List Word) (k : RawPatternBound) (us : List Word) → ks ≡ k ∷ [] → IsBound k ts us → IsMark mark.CloseBrace us rest → AreBounds ks ts rest
-    more_bounds : (ks : List RawPatternBound) (ts rest : List Word) (k : RawPatternBound) (others : List RawPatternBound) (us vs : List Word) → ks ≡ k ∷ others → IsBound k ts us → IsMark mark.Semicolon us vs → AreBounds others vs rest → AreBounds ks ts rest
+  pub data ArePatternBounds : List RawPatternBound → List Word → List Word → Type 0 where
+    last_bound : (ks : List RawPatternBound) (ts rest : List Word) (k : RawPatternBound) (us : List Word) → ks ≡ k ∷ [] → IsPatternBound k ts us → IsMark mark.CloseBrace us rest → ArePatternBounds ks ts rest
+    more_bounds : (ks : List RawPatternBound) (ts rest : List Word) (k : RawPatternBound) (others : List RawPatternBound) (us vs : List Word) → ks ≡ k ∷ others → IsPatternBound k ts us → IsMark mark.Semicolon us vs → ArePatternBounds others vs rest → ArePatternBounds ks ts rest
 
   -- binders where they begin, and a pattern
-  pub data IsBound : RawPatternBound → List Word → List Word → Type 0 where
-    bound : (k : RawPatternBound) (ts rest : List Word) (bs : List RawName) (x : RawPattern) (us : List Word) → k ≡ record { binders = bs; body = x } → AreBinders bs ts us → IsPattern x us rest → IsBound k ts rest
+  pub data IsPatternBound : RawPatternBound → List Word → List Word → Type 0 where
+    bound : (k : RawPatternBound) (ts rest : List Word) (bs : List RawName) (x : RawPattern) (us : List Word) → k ≡ record { binders = bs; body = x } → AreBinders bs ts us → IsPattern x us rest → IsPatternBound k ts rest
 
 mutual
   -- a reading of a pattern ends at the first of these words
@@ -88,7 +88,7 @@ mutual
     in_contexts : (ts rest : List Word) (n : Sym) (us : List Word) → IsCapVar n ts us → StuckContexts us rest → StuckPattern ts rest
     in_arguments : (ts rest : List Word) (n : Sym) (cs : List RawName) (us vs : List Word) → IsCapVar n ts us → AreContexts cs us vs → StuckArguments vs rest → StuckPattern ts rest
     in_params : (ts rest : List Word) (n : Sym) (us : List Word) → IsName n ts us → StuckParamPats us rest → StuckPattern ts rest
-    in_subs : (ts rest : List Word) (n : Sym) (ps : List RawParamPat) (us vs : List Word) → IsName n ts us → AreParamPats ps us vs → StuckSubs vs rest → StuckPattern ts rest
+    in_subs : (ts rest : List Word) (n : Sym) (ps : List RawParamPat) (us vs : List Word) → IsName n ts us → AreParamPats ps us vs → StuckPatternSubs vs rest → StuckPattern ts rest
 
   -- a reading of arguments in brackets is stuck at the first of these words
   pub data StuckArguments : List Word → List Word → Type 0 where
@@ -101,19 +101,19 @@ mutual
     in_other_args : (ts rest : List Word) (x : RawPattern) (us vs : List Word) → IsPattern x ts us → IsMark mark.Semicolon us vs → StuckArgs vs rest → StuckArgs ts rest
 
   -- a reading of subterms in braces is stuck at the first of these words
-  pub data StuckSubs : List Word → List Word → Type 0 where
-    in_braces : (ts rest : List Word) (us : List Word) → IsMark mark.OpenBrace ts us → StuckBounds us rest → StuckSubs ts rest
+  pub data StuckPatternSubs : List Word → List Word → Type 0 where
+    in_braces : (ts rest : List Word) (us : List Word) → IsMark mark.OpenBrace ts us → StuckPatternBounds us rest → StuckPatternSubs ts rest
 
   -- a reading of subterms one after the other is stuck at the first of these words
-  pub data StuckBounds : List Word → List Word → Type 0 where
-    in_bound : (ts rest : List Word) → StuckBound ts rest → StuckBounds ts rest
-    behind_bound : (ts rest : List Word) (k : RawPatternBound) → IsBound k ts rest → No (IsMark mark.CloseBrace) rest → No (IsMark mark.Semicolon) rest → StuckBounds ts rest
-    in_other_bounds : (ts rest : List Word) (k : RawPatternBound) (us vs : List Word) → IsBound k ts us → IsMark mark.Semicolon us vs → StuckBounds vs rest → StuckBounds ts rest
+  pub data StuckPatternBounds : List Word → List Word → Type 0 where
+    in_bound : (ts rest : List Word) → StuckPatternBound ts rest → StuckPatternBounds ts rest
+    behind_bound : (ts rest : List Word) (k : RawPatternBound) → IsPatternBound k ts rest → No (IsMark mark.CloseBrace) rest → No (IsMark mark.Semicolon) rest → StuckPatternBounds ts rest
+    in_other_bounds : (ts rest : List Word) (k : RawPatternBound) (us vs : List Word) → IsPatternBound k ts us → IsMark mark.Semicolon us vs → StuckPatternBounds vs rest → StuckPatternBounds ts rest
 
   -- a reading of a subterm is stuck at the first of these words
-  pub data StuckBound : List Word → List Word → Type 0 where
-    in_binders : (ts rest : List Word) → StuckBinders ts rest → StuckBound ts rest
-    in_body : (ts rest : List Word) (bs : List RawName) (us : List Word) → AreBinders bs ts us → StuckPattern us rest → StuckBound ts rest
+  pub data StuckPatternBound : List Word → List Word → Type 0 where
+    in_binders : (ts rest : List Word) → StuckBinders ts rest → StuckPatternBound ts rest
+    in_body : (ts rest : List Word) (bs : List RawName) (us : List Word) → AreBinders bs ts us → StuckPattern us rest → StuckPatternBound ts rest
 
 -- Cap ctxs? args? >
 abbrev pub IsContext : RawName × (List RawName × List RawPattern) → List Word → List Word → Type 0

@@ -1,6 +1,6 @@
 ghost use Rattle.std.specs.Prelude.{◌<◌, ◌≤◌, length, IfOk};
 ghost use Rattle.mp_words.specs.Parts.{IsCapAt, Lacks, Reads};
-ghost use Rattle.mp_schematext.specs.Grammar.{IsParamPat, StuckParamPat, AreParamPats, StuckParamPats, AreContexts, StuckContexts, IsPattern, StuckPattern, AreArgs, StuckArgs, AreArguments, StuckArguments, AreSubs, StuckSubs, AreBounds, StuckBounds, IsBound, StuckBound};
+ghost use Rattle.mp_schematext.specs.Grammar.{IsParamPat, StuckParamPat, AreParamPats, StuckParamPats, AreContexts, StuckContexts, IsPattern, StuckPattern, AreArgs, StuckArgs, AreArguments, StuckArguments, ArePatternSubs, StuckPatternSubs, ArePatternBounds, StuckPatternBounds, IsPatternBound, StuckPatternBound};
 
 use crate::raw::{RawParamPat, RawPattern, RawPatternBound};
 use mp_logic::List;
@@ -187,7 +187,7 @@ fn parse_args(alloc: Global, words: &[Word]) -> Result<(List<RawPattern>, &[Word
 /// Reads subterms between braces; there are none where no brace opens.
 #[cycle(parsing)]
 fn parse_subs(alloc: Global, words: &[Word]) -> Result<(List<RawPatternBound>, &[Word]), ReadFail>
-    ensures reads { Reads (λ x. (x.0, x.1.now)) AreSubs StuckSubs words.now result }
+    ensures reads { Reads (λ x. (x.0, x.1.now)) ArePatternSubs StuckPatternSubs words.now result }
     ensures within { IfOk result (λ x. length x.1.now ≤ length words.now) }
 {
     match mark(words, Mark::OpenBrace) {
@@ -199,7 +199,7 @@ fn parse_subs(alloc: Global, words: &[Word]) -> Result<(List<RawPatternBound>, &
 /// Reads subterms up to the end of their list.
 #[cycle(parsing)]
 fn parse_bounds(alloc: Global, words: &[Word]) -> Result<(List<RawPatternBound>, &[Word]), ReadFail>
-    ensures reads { Reads (λ x. (x.0, x.1.now)) AreBounds StuckBounds words.now result }
+    ensures reads { Reads (λ x. (x.0, x.1.now)) ArePatternBounds StuckPatternBounds words.now result }
     ensures shorter { IfOk result (λ x. length x.1.now < length words.now) }
 {
     let mut subs = List::new(alloc);
@@ -226,7 +226,7 @@ fn parse_bounds(alloc: Global, words: &[Word]) -> Result<(List<RawPatternBound>,
 /// Reads a subterm with its binders, if any.
 #[cycle(parsing)]
 fn parse_bound(alloc: Global, words: &[Word]) -> Result<(RawPatternBound, &[Word]), ReadFail>
-    ensures reads { Reads (λ x. (x.0, x.1.now)) IsBound StuckBound words.now result }
+    ensures reads { Reads (λ x. (x.0, x.1.now)) IsPatternBound StuckPatternBound words.now result }
     ensures shorter { IfOk result (λ x. length x.1.now < length words.now) }
 {
     let (binders, rest) = match parse_binders(alloc, words) {

@@ -14,7 +14,8 @@ use Rattle.mp_theory.specs.declared.rule.Need.{Need}
 use Rattle.mp_theory.specs.declared.rule.Rule.{Rule}
 use Rattle.mp_theory.specs.declared.just.Given.{Given}
 use Rattle.mp_theory.specs.declared.just.Just.TheVariants as just
-use Rattle.mp_theory.specs.Allowed.{are_for, is_allowed, is_allowed_at, is_for, same_bool}
+use Rattle.mp_theory.specs.Allowed.{are_for, is_allowed, is_allowed_at, is_for}
+use Rattle.mp_logic.specs.Lists.{same_bool}
 use Rattle.mp_theory.specs.Tables.{IsRule, place_of}
 use Rattle.mp_words.specs.declared.raw.RawName.{RawName}
 use Rattle.mp_words.specs.declared.raw.RawNumber.{RawNumber}
@@ -27,8 +28,8 @@ use Rattle.mp_termtext.proofs.RawLayers.{bound_value-is}
 use Rattle.mp_words.proofs.NoFaults.{nil_parts, no_fault}
 use Rattle.mp_scripttext.specs.declared.raw.RawGiven.{RawGiven}
 use Rattle.mp_scripttext.specs.declared.raw.RawStep.{RawStep}
-use Rattle.mp_scripttext.specs.Statics.{all_given_faults, given_faults, given_of, missing_faults, need_faults, need_of, place_faults, rule_at, rule_faults, rule_named, step_faults, term_faults}
-use Rattle.mp_scripttext.specs.Values.{body_of, first_of, given_for, just_of, needs_at}
+use Rattle.mp_scripttext.specs.Statics.{all_given_faults, given_faults, given_of, missing_faults, need_faults, need_of, place_faults, rule_at, named_rule_faults, rule_named, step_faults, term_faults}
+use Rattle.mp_scripttext.specs.Values.{body_of, first_hypotheses, given_for, just_of, needs_at}
 use Rattle.mp_scripttext.proofs.DistinctNeeds.{AreFound, needs_found}
 use Rattle.mp_scripttext.proofs.GoodTerms.{Fits, term_fits, body_faultless}
 
@@ -122,7 +123,7 @@ module _ (gs : List RawGiven) (needs : List Need) (terms : flat_map term_faults 
 
 -- ## Steps
 
-placed : (rule : Rule) (s : RawStep) (place : Option RawNumber) → place_faults rule s place ≡ [] → same_bool (is_some (first_of place)) (has_two_contexts rule.concl) ≡ true
+placed : (rule : Rule) (s : RawStep) (place : Option RawNumber) → place_faults rule s place ≡ [] → same_bool (is_some (first_hypotheses place)) (has_two_contexts rule.concl) ≡ true
 placed rule s None h = by (has_two_contexts rule.concl) (no_fault (has_two_contexts rule.concl) s.rule.left why.AtNeeded h)
   where
     by : (b : Bool) → b ≡ false → same_bool false b ≡ true
@@ -145,26 +146,26 @@ module _ (rules : List Rule) (s : RawStep) (at : ℕ) (rule : Rule) (found_at : 
   pub step_keeps : step_faults rules s ≡ [] → KeepsRule rule s
   step_keeps h =
       let terms = flat_map term_faults s.given in
-      let by_rule = nil_parts (written_number_faults 1 201 s.place ++ terms) (rule_faults (rule_named rules s.rule.name) s) h in
+      let by_rule = nil_parts (written_number_faults 1 201 s.place ++ terms) (named_rule_faults (rule_named rules s.rule.name) s) h in
       let alone = nil_parts (written_number_faults 1 201 s.place) terms by_rule.0 in
       let missing = flat_map (missing_faults s) rule.needs in
-      let given = nil_parts (place_faults rule s s.place ++ missing) (all_given_faults rule.needs [] s.given) (ap (λ o. rule_faults o s) (sym named) ∙ by_rule.1) in
+      let given = nil_parts (place_faults rule s s.place ++ missing) (all_given_faults rule.needs [] s.given) (ap (λ o. named_rule_faults o s) (sym named) ∙ by_rule.1) in
       let first = nil_parts (place_faults rule s s.place) missing given.0 in
       record { number = alone.0; terms = alone.1; place = first.0; there = first.1; given = given.1 }
 
   -- the justification by the rule at its place
-  pub just_made : (given : List Given) → given ≡ map (given_for s.given) rule.needs → just.Rule at (first_of s.place) given ≡ just_of rules s
+  pub just_made : (given : List Given) → given ≡ map (given_for s.given) rule.needs → just.Rule at (first_hypotheses s.place) given ≡ just_of rules s
   just_made given e =
       let needs : rule.needs ≡ needs_at (rule_named rules s.rule.name) = ap needs_at (sym named) in
       let place : at ≡ unwrap_or (place_of rules s.rule.name) 0 = ap (λ o. unwrap_or o 0) (sym found_at) in
-      (λ i. just.Rule (place i) (first_of s.place) ((e ∙ ap (map (given_for s.given)) needs) i))
+      (λ i. just.Rule (place i) (first_hypotheses s.place) ((e ∙ ap (map (given_for s.given)) needs) i))
 
   -- it is allowed
-  pub just_allowed : IsRule rule → step_faults rules s ≡ [] → is_allowed rules (just.Rule at (first_of s.place) (map (given_for s.given) rule.needs)) ≡ true
+  pub just_allowed : IsRule rule → step_faults rules s ≡ [] → is_allowed rules (just.Rule at (first_hypotheses s.place) (map (given_for s.given) rule.needs)) ≡ true
   just_allowed whole h =
       let k = step_keeps h in
       let same = whole.needs in
       let own : AreFound rule.needs rule.needs = subst (λ ns. AreFound ns ns) (sym same) (needs_found rule.premises rule.concl) in
       let are : are_for rule.needs (map (given_for s.given) rule.needs) ≡ true = are_given s.given rule.needs k.terms k.given s refl rule.needs own k.there in
-      ap (λ o. is_allowed_at o (first_of s.place) (map (given_for s.given) rule.needs)) is
+      ap (λ o. is_allowed_at o (first_hypotheses s.place) (map (given_for s.given) rule.needs)) is
       ∙ and_from _ _ (and_from _ _ whole.faultless (placed rule s s.place k.place)) (ap (λ ns. are_for ns (map (given_for s.given) rule.needs)) (sym same) ∙ are)

@@ -7,23 +7,23 @@ use denote.Param.Weighed.{most, most-append}
 use Rattle.mp_strategy.specs.declared.tactic.Tac.{Tac}
 use Rattle.mp_strategy.specs.declared.tactic.Tac.TheVariants as tac
 use Rattle.mp_scripttext.specs.declared.raw.RawStrategy.{RawStrategy}
-use Rattle.mp_scripttext.specs.Strategies.{Strategy, chain_of, strategy_of, then_all, then_of, then_row, whole_of}
+use Rattle.mp_scripttext.specs.Strategies.{Strategy, chain_of, strategy_of, then_all, then_strategy, then_row, whole_of}
 use Rattle.mp_scripttext.proofs.raw.RawStrategy.TheLaws.{the_size}
 use Rattle.mp_scripttext.proofs.Tables.{whole_table}
 
 -- ## The last strategy
 
-then_all_more : (a : Strategy) (bs : List Strategy) (b : Strategy) → then_all a (bs ++ b ∷ []) ≡ then_of (then_all a bs) b
+then_all_more : (a : Strategy) (bs : List Strategy) (b : Strategy) → then_all a (bs ++ b ∷ []) ≡ then_strategy (then_all a bs) b
 then_all_more a [] b = refl
-then_all_more a (c ∷ bs) b = then_all_more (then_of a c) bs b
+then_all_more a (c ∷ bs) b = then_all_more (then_strategy a c) bs b
 
-chain_more : (ss : List Strategy) (s : Strategy) → 0 < length ss → chain_of (ss ++ s ∷ []) ≡ then_of (chain_of ss) s
+chain_more : (ss : List Strategy) (s : Strategy) → 0 < length ss → chain_of (ss ++ s ∷ []) ≡ then_strategy (chain_of ss) s
 chain_more [] s some = absurd (omega (arith, some))
 chain_more (a ∷ ss) s some = then_all_more a ss s
 
 -- the chain is its front and then its last strategy; neither is deeper in parentheses
 pub record IsSplit (raws front : List RawStrategy) (last : RawStrategy) : Type 0 where
-  pub whole : whole_of raws ≡ then_of (whole_of front) (strategy_of last)
+  pub whole : whole_of raws ≡ then_strategy (whole_of front) (strategy_of last)
   pub nodes : (whole_of raws).nodes ≡ 1 + (whole_of front).nodes + (strategy_of last).nodes
   pub front_size : most the_size front ≤ most the_size raws
   pub last_size : the_size last ≤ most the_size raws
@@ -33,7 +33,7 @@ pub split : (raws front : List RawStrategy) (last : RawStrategy) → raws ≡ fr
 split raws front last is some =
     let l = length-map front strategy_of in
     let more : 0 < length (map strategy_of front) = grind (arith, nat_tests, l, some) in
-    let whole : whole_of raws ≡ then_of (whole_of front) (strategy_of last) = ap whole_of is ∙ ap chain_of (map-append strategy_of front (last ∷ [])) ∙ chain_more (map strategy_of front) (strategy_of last) more in
+    let whole : whole_of raws ≡ then_strategy (whole_of front) (strategy_of last) = ap whole_of is ∙ ap chain_of (map-append strategy_of front (last ∷ [])) ∙ chain_more (map strategy_of front) (strategy_of last) more in
     let size = ap (most the_size) is ∙ most-append the_size front (last ∷ []) in
     record { whole = whole; nodes = ap (λ (s : Strategy). s.nodes) whole; front_size = omega (arith, size); last_size = omega (arith, size) }
 

@@ -9,7 +9,8 @@ use Rattle.mp_logic.specs.declared.sym.Sym.{Sym}
 use Rattle.mp_term.specs.declared.term.Term.{Term}
 use Rattle.mp_term.specs.declared.term.Term as term
 use Rattle.mp_term.specs.declared.term.Bound.{Bound}
-use Rattle.mp_term.specs.Terms.{size_of, depth_of, greatest, in_scope_of, at_scope, all_true}
+use Rattle.mp_term.specs.Terms.{size_of, depth_of, in_scope_of, all_at_scope, all_true}
+use Rattle.mp_logic.specs.Lists.{greatest}
 use Rattle.mp_term.specs.Limits.{few_binders_of}
 use Rattle.mp_term.proofs.Layers.{size_bound, size-Var, size-Op, size_bound-is, depth_bound, depth-Var, depth-Op, depth_bound-is, scoped_bound, in_scope-Var, in_scope-Op, scoped_bound-is, few_bound, few-Var, few-Op, few_bound-is}
 use Rattle.mp_words.specs.declared.raw.RawName.{RawName}
@@ -18,7 +19,7 @@ use Rattle.mp_termtext.specs.declared.raw.RawBound.{RawBound}
 use Rattle.mp_termtext.specs.declared.raw.RawTerm.{RawTerm, Var, Op}
 use Rattle.mp_words.specs.Faults.{too_many}
 use Rattle.mp_termtext.specs.Statics.{bound_faults_of, deep, each_faults, faults_of, free_level, level_by, level_of, names_of, place_in, raw_size_of, unless_bound}
-use Rattle.mp_termtext.specs.Values.{bound_value_of, each_value, value_of}
+use Rattle.mp_termtext.specs.Values.{bound_value_of, each_subterm_value, value_of}
 use Rattle.mp_words.proofs.NoFaults.{nil_parts, not_many}
 use Rattle.mp_termtext.proofs.Faultless.{not_deep, place_below}
 use Rattle.mp_termtext.proofs.RawLayers.{faults-Var, faults-Op, bound_faults-is, value-Var, value-Op, bound_value-is, raw_size_bound, raw_size-Var, raw_size-Op, raw_size_bound-is}
@@ -54,7 +55,7 @@ pub record Fits (t : Term) (scope d n : ℕ) : Type 0 where
 
 -- the same of the bodies of an operator
 record BodiesFit (bs : List Bound) (scope d n : ℕ) : Type 0 where
-  scoped : at_scope scope (map scoped_bound bs) ≡ true
+  scoped : all_at_scope scope (map scoped_bound bs) ≡ true
   few : all_true (map few_bound bs) ≡ true
   depth : greatest (map depth_bound bs) + d ≤ 201
   size : sum (map size_bound bs) ≡ n
@@ -108,7 +109,7 @@ module _ (free : ℕ) where
     inner_scope = let a = length-append env (names_of k.binders) in let m = length-map k.binders (λ b. b.name) in omega (arith, a, m)
 
   bodies_fit : (ks : List RawBound) → OfEachBody (HasFits free) ks → (env : List Sym) (d : ℕ) → d ≤ 201 → each_faults (map (bound_faults_of free) ks) env d ≡ []
-      → BodiesFit (each_value (map (bound_value_of free) ks) env) (free + length env) d (sum (map raw_size_bound ks))
+      → BodiesFit (each_subterm_value (map (bound_value_of free) ks) env) (free + length env) d (sum (map raw_size_bound ks))
   bodies_fit [] ih env d few h = record { scoped = refl; few = refl; depth = omega (arith, few); size = refl }
   bodies_fit (k ∷ ks) ih env d few h =
       let both = nil_parts (bound_faults_of free k env d) (each_faults (map (bound_faults_of free) ks) env d) h in
@@ -123,7 +124,7 @@ module _ (free : ℕ) where
         scoped = and_from _ _ (ap (λ c. scoped_bound c (free + length env)) is ∙ scoped_bound-is b (free + length env) ∙ ap (in_scope_of b.body) (inner_scope k env d both.0) ∙ here.scoped) rest.scoped;
         few = and_from _ _ (ap few_bound is ∙ few_bound-is b ∙ and_from _ _ (le_true (length k.binders) 8 (binders_few k env d both.0)) here.few) rest.few;
         depth = omega (arith, deep_here, deep_rest, same);
-        size = both_sums _ _ (map size_bound (each_value (map (bound_value_of free) ks) env)) (map raw_size_bound ks) size_here rest.size;
+        size = both_sums _ _ (map size_bound (each_subterm_value (map (bound_value_of free) ks) env)) (map raw_size_bound ks) size_here rest.size;
       }
 
   op_fits : (n : Sym) (ps : List RawParam) (ks : List RawBound) (l : ℕ) → OfEachBody (HasFits free) ks → HasFits free (Op n ps ks l)
@@ -133,7 +134,7 @@ module _ (free : ℕ) where
       let shallow = not_deep d l (nil_parts (deep d l) (too_many (λ p. p.left) 16 ps) parts.0).0 in
       let all = bodies_fit ks ih env (d + 1) (omega (arith, shallow)) parts.1 in
       let values = map (λ (p : RawParam). p.value) ps in
-      let subs = each_value (map (bound_value_of free) ks) env in
+      let subs = each_subterm_value (map (bound_value_of free) ks) env in
       let deepest = all.depth in
       let one = depth-Op n values subs in
       let fits : Fits (term.Op n values subs) (free + length env) d (raw_size_of (Op n ps ks l)) = record {

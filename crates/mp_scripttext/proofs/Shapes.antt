@@ -3,7 +3,7 @@ use Rattle.std.proofs.Common.{◌≡◌, ◌+◌, ◌<◌, ℕ, List, [], ◌∷
 use Rattle.mp_logic.specs.Trees.{counted}
 use Rattle.mp_words.proofs.Walks.{left_cons}
 use Rattle.mp_scripttext.specs.declared.raw.RawStrategy.{RawStrategy}
-use Rattle.mp_scripttext.specs.Strategies.{Strategy, strategy_of, then_all, then_of, whole_of}
+use Rattle.mp_scripttext.specs.Strategies.{Strategy, strategy_of, then_all, then_strategy, whole_of}
 
 -- the nodes of a strategy of so many nodes and further ones
 abbrev pub nodes_all : ℕ → List Strategy → ℕ
@@ -17,11 +17,11 @@ depth_all d (b ∷ bs) = depth_all (1 + max d b.depth) bs
 
 nodes_are : (a : Strategy) (bs : List Strategy) → (then_all a bs).nodes ≡ nodes_all a.nodes bs
 nodes_are a [] = refl
-nodes_are a (b ∷ bs) = nodes_are (then_of a b) bs
+nodes_are a (b ∷ bs) = nodes_are (then_strategy a b) bs
 
 depth_is : (a : Strategy) (bs : List Strategy) → (then_all a bs).depth ≡ depth_all a.depth bs
 depth_is a [] = refl
-depth_is a (b ∷ bs) = depth_is (then_of a b) bs
+depth_is a (b ∷ bs) = depth_is (then_strategy a b) bs
 
 -- where two counts stop at the same value, so do those with further strategies
 nodes_same : (m n : ℕ) (bs : List Strategy) → counted m ≡ counted n → counted (nodes_all m bs) ≡ counted (nodes_all n bs)

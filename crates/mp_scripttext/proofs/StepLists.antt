@@ -6,7 +6,7 @@ use Rattle.mp_words.specs.declared.fault.Fault.{Fault}
 use Rattle.mp_words.proofs.NoFaults.{nil_parts}
 use Rattle.mp_scripttext.specs.declared.raw.RawStep.{RawStep}
 use Rattle.mp_scripttext.specs.declared.raw.RawStrategy.{RawStrategy}
-use Rattle.mp_scripttext.specs.Strategies.{Strategy, strategy_of, then_all, then_of, whole_of}
+use Rattle.mp_scripttext.specs.Strategies.{Strategy, strategy_of, then_all, then_strategy, whole_of}
 
 -- where no item has anything, this one has nothing
 pub nil_at : {X A : Type 0} (f : X → List A) (xs : List X) (i : ℕ) (x : X) → i < length xs → x ≡ get_or xs i x → flat_map f xs ≡ [] → f x ≡ []
@@ -19,7 +19,7 @@ steps_in = flat_map (λ raw. (strategy_of raw).steps)
 
 then_steps : (a : Strategy) (raws : List RawStrategy) → (then_all a (map strategy_of raws)).steps ≡ a.steps ++ steps_in raws
 then_steps a [] = sym (append-nil a.steps)
-then_steps a (r ∷ raws) = then_steps (then_of a (strategy_of r)) raws ∙ append_assoc a.steps (strategy_of r).steps (steps_in raws)
+then_steps a (r ∷ raws) = then_steps (then_strategy a (strategy_of r)) raws ∙ append_assoc a.steps (strategy_of r).steps (steps_in raws)
 
 pub whole_steps : (raws : List RawStrategy) → (whole_of raws).steps ≡ steps_in raws
 whole_steps [] = refl

@@ -9,7 +9,7 @@ use Rattle.mp_strategy.specs.declared.tactic.Tac.{Tac}
 use Rattle.mp_strategy.specs.Fits.{fits_of, rows_fit, depths, depth_by, is_behind}
 use Rattle.mp_scripttext.specs.declared.raw.RawStep.{RawStep}
 use Rattle.mp_scripttext.specs.declared.raw.RawStrategy.{RawStrategy, Id, Step, Chain}
-use Rattle.mp_scripttext.specs.Strategies.{Strategy, chain_of, id_alone, step_alone, strategy_of, then_all, then_of, then_row, whole_of}
+use Rattle.mp_scripttext.specs.Strategies.{Strategy, chain_of, id_alone, step_alone, strategy_of, then_all, then_strategy, then_row, whole_of}
 use Rattle.mp_scripttext.proofs.StrategyInduction.{each_strategy, all_strategies}
 use Rattle.mp_scripttext.proofs.StrategyLayers.{strategy-Id, strategy-Step, strategy-Chain}
 
@@ -75,7 +75,7 @@ all_at_most (x ∷ xs) m n h k =
 
 module _ (a b : Strategy) (ta : IsTable a) (tb : IsTable b) where
   abbrev all : Strategy
-  all = then_of a b
+  all = then_strategy a b
 
   abbrev second : (node step : ℕ) → List Tac
   second node step = b.rows (node + 1 + a.nodes) (step + length a.steps)
@@ -145,7 +145,7 @@ module _ (a b : Strategy) (ta : IsTable a) (tb : IsTable b) where
             (list_all-append (at_most all.depth) da db ∙ and_from _ _ (all_at_most da a.depth all.depth (omega arith) ka.shallow) (all_at_most db b.depth all.depth (omega arith) kb.shallow));
       }
 
-  pub then_table : IsTable (then_of a b)
+  pub then_table : IsTable (then_strategy a b)
   then_table =
       let fa = ta.few in let fb = tb.few in
       let steps = length-append a.steps b.steps in
@@ -167,7 +167,7 @@ AreTables (s ∷ ss) = IsTable s × AreTables ss
 
 then_all_table : (a : Strategy) (bs : List Strategy) → IsTable a → AreTables bs → IsTable (then_all a bs)
 then_all_table a [] t ts = t
-then_all_table a (b ∷ bs) t ts = then_all_table (then_of a b) bs (then_table a b t ts.0) ts.1
+then_all_table a (b ∷ bs) t ts = then_all_table (then_strategy a b) bs (then_table a b t ts.0) ts.1
 
 chain_table : (ss : List Strategy) → AreTables ss → IsTable (chain_of ss)
 chain_table [] ts = id_table

@@ -60,9 +60,9 @@ abbrev pub missing_faults : RawStep → Need → List Fault
 missing_faults s need = fault_if (not (is_some (given_of s.given need.name))) s.rule.left why.MissingWith
 
 -- the step fits the rule of its name, which the theory has
-abbrev pub rule_faults : Option Rule → RawStep → List Fault
-rule_faults None s = fault s.rule.left why.UnknownName
-rule_faults (Some rule) s = place_faults rule s s.place ++ flat_map (missing_faults s) rule.needs ++ all_given_faults rule.needs [] s.given
+abbrev pub named_rule_faults : Option Rule → RawStep → List Fault
+named_rule_faults None s = fault s.rule.left why.UnknownName
+named_rule_faults (Some rule) s = place_faults rule s s.place ++ flat_map (missing_faults s) rule.needs ++ all_given_faults rule.needs [] s.given
 
 -- the rule at this place, if there is one
 abbrev pub rule_at : List Rule → Option ℕ → Option Rule
@@ -75,7 +75,7 @@ rule_named rules name = rule_at rules (place_of rules name)
 
 -- the faults of a step: its place is 1 to 201, its given terms keep the rules of terms, and it fits its rule
 abbrev pub step_faults : List Rule → RawStep → List Fault
-step_faults rules s = written_number_faults 1 201 s.place ++ flat_map term_faults s.given ++ rule_faults (rule_named rules s.rule.name) s
+step_faults rules s = written_number_faults 1 201 s.place ++ flat_map term_faults s.given ++ named_rule_faults (rule_named rules s.rule.name) s
 
 -- ## Goals and scripts
 

@@ -28,8 +28,8 @@ abbrev pub then_row : (first second : ℕ) → Tac
 then_row first second = tac.Then (record { 0 = first }) (record { 0 = second })
 
 -- a node for `then`, and after it the nodes of the first strategy and those of the second one
-abbrev pub then_of : Strategy → Strategy → Strategy
-then_of a b = record {
+abbrev pub then_strategy : Strategy → Strategy → Strategy
+then_strategy a b = record {
   steps = a.steps ++ b.steps;
   nodes = 1 + a.nodes + b.nodes;
   depth = 1 + max a.depth b.depth;
@@ -39,7 +39,7 @@ then_of a b = record {
 -- a strategy and further ones, grouped to the left
 abbrev pub then_all : Strategy → List Strategy → Strategy
 then_all a [] = a
-then_all a (b ∷ bs) = then_all (then_of a b) bs
+then_all a (b ∷ bs) = then_all (then_strategy a b) bs
 
 -- a chain; it has a strategy at least
 abbrev pub chain_of : List Strategy → Strategy

@@ -33,13 +33,13 @@ needs_at None = []
 needs_at (Some rule) = rule.needs
 
 -- `at i` says that the first context has i - 1 hypotheses
-abbrev pub first_of : Option RawNumber → Option ℕ
-first_of None = None
-first_of (Some n) = Some (nat_abs n.value - 1)
+abbrev pub first_hypotheses : Option RawNumber → Option ℕ
+first_hypotheses None = None
+first_hypotheses (Some n) = Some (nat_abs n.value - 1)
 
 -- the justification of a step: what is given stands in the order of the rule's needs
 abbrev pub just_of : List Rule → RawStep → Just
-just_of rules s = just.Rule (unwrap_or (place_of rules s.rule.name) 0) (first_of s.place) (map (given_for s.given) (needs_at (rule_named rules s.rule.name)))
+just_of rules s = just.Rule (unwrap_or (place_of rules s.rule.name) 0) (first_hypotheses s.place) (map (given_for s.given) (needs_at (rule_named rules s.rule.name)))
 
 -- the fuel that is written, or 200
 abbrev pub fuel_of : Option RawNumber → ℕ

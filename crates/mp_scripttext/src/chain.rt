@@ -38,7 +38,10 @@ fn parse_strategy(alloc: Global, words: &[Word]) -> Result<(RawStrategy, &[Word]
 
 /// Reads strategies with `then` between each two at the front of the words. There is one at least.
 #[cycle(parsing)]
-pub(crate) fn parse_chain(alloc: Global, words: &[Word]) -> Result<(List<RawStrategy>, &[Word]), ReadFail>
+pub(crate) fn parse_chain(
+    alloc: Global,
+    words: &[Word],
+) -> Result<(List<RawStrategy>, &[Word]), ReadFail>
     ensures reads { Reads (λ x. (x.0, x.1.now)) IsChain StuckChain words.now result }
     ensures shorter { IfOk result (λ x. length x.1.now < length words.now) }
 {

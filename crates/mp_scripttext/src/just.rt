@@ -5,7 +5,7 @@ ghost use Rattle.mp_words.specs.Ranges.{written_number_faults};
 ghost use Rattle.mp_scripttext.specs.Names.{given_numbers};
 ghost use Rattle.mp_scripttext.specs.Statics.{all_given_faults, missing_faults, step_faults, term_faults};
 ghost use Rattle.mp_scripttext.specs.Strategies.{strategy_of, whole_of};
-ghost use Rattle.mp_scripttext.specs.Values.{first_of, given_for, just_of};
+ghost use Rattle.mp_scripttext.specs.Values.{first_hypotheses, given_for, just_of};
 
 use crate::names::{find_given, given_names};
 use crate::raw::{RawStep, RawStrategy};
@@ -68,7 +68,7 @@ fn build_all_given(
 /// The size of the first context: one less than the number behind `at`.
 fn build_first(place: Option<RawNumber>) -> Option<u32>
     requires { written_number_faults 1 201 place ≡ [] }
-    ensures { result ≡ first_of place }
+    ensures { result ≡ first_hypotheses place }
 {
     match place {
         Some(number) => Some((number.value - 1) as u32),

@@ -5,7 +5,7 @@ ghost use Rattle.mp_theory.specs.Tables.{IsRule};
 ghost use Rattle.mp_words.specs.declared.fail.TextWhy.TheVariants as why;
 ghost use Rattle.mp_words.specs.Faults.{fault_if, is_behind, least_from};
 ghost use Rattle.mp_scripttext.specs.Names.{AreNew, need_numbers};
-ghost use Rattle.mp_scripttext.specs.Statics.{all_given_faults, missing_faults, need_faults, place_faults, rule_faults, rule_named, step_faults, term_faults};
+ghost use Rattle.mp_scripttext.specs.Statics.{all_given_faults, missing_faults, need_faults, place_faults, named_rule_faults, rule_named, step_faults, term_faults};
 
 use crate::names::{find_need, given_names, need_names};
 use crate::raw::{RawGiven, RawStep};
@@ -133,7 +133,7 @@ fn check_rule(
     raw: &RawStep,
 ) -> Result<Option<Fault>, NoMemory>
     requires { IsRule rule.now }
-    ensures { IfOk result (λ found. found ≡ least_from held (rule_faults (Some rule.now) raw.now)) }
+    ensures { IfOk result (λ found. found ≡ least_from held (named_rule_faults (Some rule.now) raw.now)) }
 {
     let held = check_place(held, rule, raw);
     let held = check_missing(alloc, held, rule.needs.as_slice(), raw)?;

@@ -13,7 +13,7 @@ use Rattle.mp_strategy.specs.declared.tactic.Tac.TheVariants as tac
 use Rattle.mp_strategy.specs.declared.outcome.Failure.{Failure}
 use Rattle.mp_strategy.specs.declared.outcome.Outcome.{Outcome}
 use Rattle.mp_strategy.specs.declared.outcome.Outcome.TheVariants as outcome
-use Rattle.mp_strategy.specs.Strategies.{Gives, All, AllTrees, SomeFails, ThenGives, left_of, stepped, step_by, step_with, Row, EvalsIn}
+use Rattle.mp_strategy.specs.Strategies.{Gives, All, AllTrees, SomeFails, ThenGives, left_of, stepped, step_or_failed, step_with, Row, EvalsIn}
 use Rattle.mp_strategy.specs.Laws.{IsGood}
 
 -- each justification of a list is allowed
@@ -61,7 +61,7 @@ module _ {G : Type 0} (good : G → Bool) where
   module _ {J : Type 0} (allowed : J → Bool) (step : J → G → steps.Outcome G)
       (keeps_good : (j : J) (g : G) → IsTrue (allowed j) → IsTrue (good g) → IfOk (step j g) (λ kids. IsTrue (list_all good kids)))
       (justs : List J) (all_allowed : IsTrue (list_all allowed justs)) where
-    good_step_by : (here : ℕ) (just : JustId) (g : G) → Good g → (o : Option J) → slice_get justs just.0 ≡ o → IsGood good (step_by step o here just g)
+    good_step_by : (here : ℕ) (just : JustId) (g : G) → Good g → (o : Option J) → slice_get justs just.0 ≡ o → IsGood good (step_or_failed step o here just g)
     good_step_by here just g a None e = a
     good_step_by here just g a (Some j) e = good_stepped here just g (step j g) a (keeps_good j g (allowed_at allowed justs just.0 j all_allowed e) a)
 

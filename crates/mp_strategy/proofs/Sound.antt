@@ -16,8 +16,8 @@ use Rattle.mp_strategy.specs.declared.tactic.Tac.{Tac}
 use Rattle.mp_strategy.specs.declared.tactic.Tac.TheVariants as tac
 use Rattle.mp_strategy.specs.declared.outcome.Outcome.{Outcome}
 use Rattle.mp_strategy.specs.declared.outcome.Outcome.TheVariants as outcome
-use Rattle.mp_strategy.specs.Fits.{greatest}
-use Rattle.mp_strategy.specs.Strategies.{Gives, All, AllTrees, ThenGives, left_of, stepped, step_by, step_with, Row, EvalsIn}
+use Rattle.mp_logic.specs.Lists.{greatest}
+use Rattle.mp_strategy.specs.Strategies.{Gives, All, AllTrees, ThenGives, left_of, stepped, step_or_failed, step_with, Row, EvalsIn}
 use Rattle.mp_strategy.specs.Laws.{depth_of, IsSound}
 use Rattle.mp_strategy.proofs.Steps.{depth-Leaf, depth-Step, root-Leaf, root-Step, graft-Leaf, every_here, every_kid}
 
@@ -144,7 +144,7 @@ module _ {G J : Type 0} (step : J → G → steps.Outcome G) (justs : List J) wh
       for_step f g just (map Leaf goals) (j, is, e ∙ ap Ok (sym (roots_of_leaves goals))) (all_leaves_hold goals) (depths_of_leaves f goals)
   sound_stepped here just f g j is (Err w) e = tt
 
-  sound_step_by : (here : ℕ) (just : JustId) (f : ℕ) (g : G) (o : Option J) → slice_get justs just.0 ≡ o → IsSound step justs (suc f) g (step_by step o here just g)
+  sound_step_by : (here : ℕ) (just : JustId) (f : ℕ) (g : G) (o : Option J) → slice_get justs just.0 ≡ o → IsSound step justs (suc f) g (step_or_failed step o here just g)
   sound_step_by here just f g None e = tt
   sound_step_by here just f g (Some j) e = sound_stepped here just f g j e (step j g) refl
 

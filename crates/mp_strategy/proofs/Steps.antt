@@ -7,7 +7,7 @@ use Rattle.mp_logic.specs.declared.tree.Tree.TheOpen.{Tree-F}
 use Rattle.mp_logic.specs.declared.tree.Tree.TheVariants.{rolls-Leaf, rolls-Step, outs-Leaf, outs-Step}
 use Rattle.mp_logic.specs.declared.tree.JustId.{JustId}
 use Rattle.mp_logic.specs.Trees.{root_of, goal_at, Grafting, graft_from, graft_step}
-use Rattle.mp_strategy.specs.Fits.{greatest}
+use Rattle.mp_logic.specs.Lists.{greatest}
 use Rattle.mp_strategy.specs.Laws.{depth_of, depth_step}
 
 pub depth-Leaf : {G : Type 0} (g : G) → depth_of (Leaf g) ≡ 0

@@ -5,7 +5,8 @@ use Rattle.std.proofs.lemmas.List.{get_or-set_other, length-replicate, length-se
 use Rattle.std.proofs.lemmas.Grind.{common_steps, get_or-set_at}
 use Rattle.std.specs.List.{list_all}
 use Rattle.mp_strategy.specs.declared.tactic.Tac.{Tac}
-use Rattle.mp_strategy.specs.Fits.{parts_of, is_behind, row_fits, rows_fit, greatest, depth_by, depths}
+use Rattle.mp_strategy.specs.Fits.{parts_of, is_behind, row_fits, rows_fit, depth_by, depths}
+use Rattle.mp_logic.specs.Lists.{greatest}
 
 -- an entry and those behind it
 pub from_here : (ts : List Tac) (i : ℕ) (t d : Tac) → i < length ts → t ≡ get_or ts i d → drop i ts ≡ t ∷ drop (i + 1) ts

@@ -4,6 +4,7 @@ use Rattle.std.specs.List.{list_all}
 use Rattle.mp_strategy.specs.declared.limits.TheConstants.{MOST_DEPTH, MOST_NODES}
 use Rattle.mp_strategy.specs.declared.tactic.Tac.{Tac}
 use Rattle.mp_strategy.specs.declared.tactic.Tac.TheVariants as tac
+use Rattle.mp_logic.specs.Lists.{greatest}
 
 -- the strategies that a strategy names
 abbrev pub parts_of : Tac → List ℕ
@@ -29,11 +30,6 @@ row_fits justs here count t = list_all (is_behind here count) (parts_of t) && li
 abbrev pub rows_fit : ℕ → ℕ → List Tac → Bool
 rows_fit justs here [] = true
 rows_fit justs here (t ∷ ts) = row_fits justs here (here + 1 + length ts) t && rows_fit justs (here + 1) ts
-
--- the greatest of the numbers, or 0
-abbrev pub greatest : List ℕ → ℕ
-greatest [] = 0
-greatest (n ∷ ns) = max n (greatest ns)
 
 -- one more than the greatest depth of the parts, by the depths of the entries after it: a strategy without parts has depth 1
 abbrev pub depth_by : ℕ → List ℕ → Tac → ℕ

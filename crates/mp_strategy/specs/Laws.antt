@@ -11,7 +11,7 @@ use Rattle.mp_strategy.specs.declared.tactic.Tac.{Tac}
 use Rattle.mp_strategy.specs.declared.outcome.Outcome.{Outcome}
 use Rattle.mp_strategy.specs.declared.outcome.Outcome.TheVariants as outcome
 use Rattle.mp_strategy.specs.declared.work.Work.{Work}
-use Rattle.mp_strategy.specs.Fits.{greatest}
+use Rattle.mp_logic.specs.Lists.{greatest}
 use Rattle.mp_strategy.specs.Strategies.{Evals}
 use Rattle.mp_strategy.specs.Evaluation.{eval}
 

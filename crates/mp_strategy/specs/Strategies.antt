@@ -34,14 +34,14 @@ stepped here just g (Ok kids) = outcome.Tree (Step g just (map Leaf kids))
 stepped here just g (Err w) = failure (kind_of w) here g
 
 -- a step by a justification of the list; no table that fits names one that isn't there
-abbrev pub step_by : {G J : Type 0} → (J → G → steps.Outcome G) → Option J → ℕ → JustId → G → Outcome G
-step_by step (Some j) here just g = stepped here just g (step j g)
-step_by step None here just g = failure kind.Failed here g
+abbrev pub step_or_failed : {G J : Type 0} → (J → G → steps.Outcome G) → Option J → ℕ → JustId → G → Outcome G
+step_or_failed step (Some j) here just g = stepped here just g (step j g)
+step_or_failed step None here just g = failure kind.Failed here g
 
 -- a step with so much fuel: out of fuel if it is 0, else by the justification of this number
 abbrev pub step_with : {G J : Type 0} → (J → G → steps.Outcome G) → List J → ℕ → JustId → ℕ → G → Outcome G
 step_with step justs here just zero g = failure kind.OutOfFuel here g
-step_with step justs here just (suc f) g = step_by step (slice_get justs just.0) here just g
+step_with step justs here just (suc f) g = step_or_failed step (slice_get justs just.0) here just g
 
 -- the outcomes that a strategy gives with so much fuel on a goal
 abbrev pub Gives : Type 0 → Type 1

@@ -1,7 +1,8 @@
 ghost use Rattle.std.specs.Prelude.{◌≡◌, ℕ, ◌+◌, ◌<◌, ◌≤◌, nat_le, nat_lt, length, map, slice_index, IsTrue};
 ghost use Rattle.std.specs.List.{list_all};
 ghost use Rattle.mp_strategy.specs.declared.limits.TheConstants.{MOST_DEPTH, MOST_NODES};
-ghost use Rattle.mp_strategy.specs.Fits.{parts_of, greatest, is_behind as is_behind_of, row_fits as row_fits_of, rows_fit, depths as depths_of, fits_of};
+ghost use Rattle.mp_strategy.specs.Fits.{parts_of, is_behind as is_behind_of, row_fits as row_fits_of, rows_fit, depths as depths_of, fits_of};
+ghost use Rattle.mp_logic.specs.Lists.{greatest};
 
 use crate::limits::{MOST_DEPTH, MOST_NODES};
 use crate::{Tac, TacId};

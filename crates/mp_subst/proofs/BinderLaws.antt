@@ -10,7 +10,8 @@ use Rattle.mp_term.specs.declared.term.Param.{Param}
 use Rattle.mp_term.specs.declared.term.Term.{Term, Var, Op}
 use Rattle.mp_term.specs.declared.term.Bound.{Bound}
 use Rattle.mp_term.specs.Induction.{OfEachBody, each_term}
-use Rattle.mp_term.specs.Terms.{all_true, depth_of, greatest}
+use Rattle.mp_term.specs.Terms.{all_true, depth_of}
+use Rattle.mp_logic.specs.Lists.{greatest}
 use Rattle.mp_term.specs.Limits.{few_binders_of}
 use Rattle.mp_term.proofs.Layers.{few_bound, few-Var, few-Op, few_bound-is, depth_bound, depth-Var, depth-Op, depth_bound-is}
 use Rattle.mp_subst.specs.Subst.{weak, weak_bound, under, sub_of, sub_bound_of, sub_each, widest_of, widest_at, width_bound}

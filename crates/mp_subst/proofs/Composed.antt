@@ -9,7 +9,7 @@ use Rattle.mp_term.specs.declared.term.Param.{Param}
 use Rattle.mp_term.specs.declared.term.Term.{Term, Var, Op}
 use Rattle.mp_term.specs.declared.term.Bound.{Bound}
 use Rattle.mp_term.specs.Induction.{OfEachBody, each_term}
-use Rattle.mp_term.specs.Terms.{in_scope_of, at_scope}
+use Rattle.mp_term.specs.Terms.{in_scope_of, all_at_scope}
 use Rattle.mp_term.proofs.Layers.{scoped_bound, in_scope-Var, in_scope-Op, scoped_bound-is}
 use Rattle.mp_subst.specs.Subst.{weak, weak_bound, variables, under, sub_of, sub_bound_of, sub_each, AreInScope}
 use Rattle.mp_subst.proofs.Layers.{weak-Var, weak-Op, weak_bound-is, sub-Var, sub-Op, sub_bound-is}
@@ -17,11 +17,11 @@ use Rattle.mp_subst.proofs.WeakLaws.{weak-weak, weak-stacked}
 use Rattle.mp_subst.proofs.SubLaws.{under-under, under-low, under-high, under-none, length-variables, variables-append, map-weak-variables, get_or-variables, AreInScope-at}
 
 -- what every case of an operator uses: a body in scope n + j is in scope by itself
-body_scoped : (b : Bound) (bs : List Bound) (n j : ℕ) → IsTrue (at_scope (n + j) (map scoped_bound (b ∷ bs))) →
-    IsTrue (in_scope_of b.body (n + (j + b.binders))) × IsTrue (at_scope (n + j) (map scoped_bound bs))
+body_scoped : (b : Bound) (bs : List Bound) (n j : ℕ) → IsTrue (all_at_scope (n + j) (map scoped_bound (b ∷ bs))) →
+    IsTrue (in_scope_of b.body (n + (j + b.binders))) × IsTrue (all_at_scope (n + j) (map scoped_bound bs))
 body_scoped b bs n j scoped =
     let first : IsTrue (scoped_bound b (n + j)) = grind (arith, common_steps) in
-    let rest : IsTrue (at_scope (n + j) (map scoped_bound bs)) = grind (arith, common_steps) in
+    let rest : IsTrue (all_at_scope (n + j) (map scoped_bound bs)) = grind (arith, common_steps) in
     let e : n + j + b.binders ≡ n + (j + b.binders) = omega arith in
     (rw (scoped_bound-is, e) at first, rest)
 
@@ -51,7 +51,7 @@ module _ (s extra : List Term) (m : ℕ) where
             rw (moves, sub-Var, sub-Var, left, right, e) refl
       ]
 
-  skips_bounds : (bs : List Bound) (j : ℕ) → OfEachBody Skips bs → IsTrue (at_scope (length s + j) (map scoped_bound bs)) →
+  skips_bounds : (bs : List Bound) (j : ℕ) → OfEachBody Skips bs → IsTrue (all_at_scope (length s + j) (map scoped_bound bs)) →
       sub_each (map sub_bound_of (map (weak_bound (length s) (length extra)) bs)) (under (s ++ extra) m j) (m + j)
       ≡ sub_each (map sub_bound_of bs) (under s m j) (m + j)
   skips_bounds [] j h scoped = refl
@@ -108,7 +108,7 @@ module _ (s : List Term) (m k : ℕ) where
             rw (left, right, long, moved, e) refl
       ])
 
-  commutes_bounds : (bs : List Bound) (j : ℕ) → OfEachBody Commutes bs → IsTrue (at_scope (length s + j) (map scoped_bound bs)) →
+  commutes_bounds : (bs : List Bound) (j : ℕ) → OfEachBody Commutes bs → IsTrue (all_at_scope (length s + j) (map scoped_bound bs)) →
       map (weak_bound m k) (sub_each (map sub_bound_of bs) (under s m j) (m + j))
       ≡ sub_each (map sub_bound_of bs) (under (map (weak m k) s) (m + k) j) (m + k + j)
   commutes_bounds [] j h scoped = refl
@@ -180,7 +180,7 @@ module _ (s r : List Term) (m p : ℕ) (count : length r ≡ m) (all : AreInScop
             rw (left, right, long, sub-Var, again, e) refl
       ])
 
-  composes_bounds : (bs : List Bound) (j : ℕ) → OfEachBody Composes bs → IsTrue (at_scope (length s + j) (map scoped_bound bs)) →
+  composes_bounds : (bs : List Bound) (j : ℕ) → OfEachBody Composes bs → IsTrue (all_at_scope (length s + j) (map scoped_bound bs)) →
       sub_each (map sub_bound_of (sub_each (map sub_bound_of bs) (under s m j) (m + j))) (under r p j) (p + j)
       ≡ sub_each (map sub_bound_of bs) (under replaced p j) (p + j)
   composes_bounds [] j h scoped = refl
@@ -235,11 +235,11 @@ self_var i n scoped =
     let e : 0 + i ≡ i = omega arith in
     rw (sub-Var, get_or-variables 0 n i (Var i) inside, e) refl
 
-self_bounds : (bs : List Bound) (n : ℕ) → OfEachBody IsSelf bs → IsTrue (at_scope n (map scoped_bound bs)) → sub_each (map sub_bound_of bs) (variables 0 n) n ≡ bs
+self_bounds : (bs : List Bound) (n : ℕ) → OfEachBody IsSelf bs → IsTrue (all_at_scope n (map scoped_bound bs)) → sub_each (map sub_bound_of bs) (variables 0 n) n ≡ bs
 self_bounds [] n h scoped = refl
 self_bounds (b ∷ bs) n h scoped =
     let first_scoped : IsTrue (scoped_bound b n) = grind (arith, common_steps) in
-    let rest_scoped : IsTrue (at_scope n (map scoped_bound bs)) = grind (arith, common_steps) in
+    let rest_scoped : IsTrue (all_at_scope n (map scoped_bound bs)) = grind (arith, common_steps) in
     let body = h.0 (n + b.binders) (rw scoped_bound-is at first_scoped) in
     let rest = self_bounds bs n h.1 rest_scoped in
     let first : sub_bound_of b (variables 0 n) n ≡ b = rw (sub_bound-is, under-variables, body) refl in

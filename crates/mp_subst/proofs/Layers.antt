@@ -8,7 +8,8 @@ use Rattle.mp_term.specs.declared.term.Term.{Term, Var, Op, the_lemmas}
 use Rattle.mp_term.specs.declared.term.Bound.{Bound, fold-Bound}
 use Rattle.mp_subst.specs.Subst.{weak, weak_bound, under, sub_of, sub_bound_of, sub_each, widest_of, widest_at, width_bound, all_some, unrenamed, unrenamed_bound, occurs_in, occurs_step, any_true}
 use Rattle.mp_subst.specs.Sizes.{sub_size, sub_size_bound, sub_depth, sub_depth_bound}
-use Rattle.mp_term.specs.Terms.{greatest, body_step}
+use Rattle.mp_term.specs.Terms.{body_step}
+use Rattle.mp_logic.specs.Lists.{greatest}
 use Rattle.std.proofs.Common.{sum}
 
 pub weak-Var : (n k level : ℕ) → weak n k (Var level) ≡ Var (if nat_lt level n then level else level + k)

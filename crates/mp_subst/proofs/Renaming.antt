@@ -18,7 +18,7 @@ use Rattle.mp_term.specs.declared.term.Param.{Param}
 use Rattle.mp_term.specs.declared.term.Term.{Term, Var, Op}
 use Rattle.mp_term.specs.declared.term.Bound.{Bound}
 use Rattle.mp_term.specs.Induction.{OfEachBody, each_term}
-use Rattle.mp_term.specs.Terms.{in_scope_of, at_scope}
+use Rattle.mp_term.specs.Terms.{in_scope_of, all_at_scope}
 use Rattle.mp_term.proofs.Layers.{scoped_bound, in_scope-Var, in_scope-Op, scoped_bound-is}
 use Rattle.mp_subst.specs.Subst.{weak, under, sub_of, sub_bound_of, sub_each, all_some, unrenamed, unrenamed_bound, IsRenaming}
 use Rattle.mp_subst.proofs.Layers.{weak-Var, sub-Var, sub-Op, sub_bound-is, unrenamed-Var, unrenamed-Op, unrenamed_bound-is, with_first, all_some-cons}
@@ -61,12 +61,12 @@ module _ (levels : List ℕ) (n : ℕ) (distinct : IsDistinct nat_eq levels) (be
       let inside : i < length levels + k = grind (arith, nat_tests) in
       rw sub-Var (elim (cases_lt i (length levels)) [ inl low ↦ undone_low i k low | inr high ↦ undone_high i k high inside ])
 
-  undone_bounds : (bs : List Bound) (k : ℕ) → OfEachBody IsUndone bs → IsTrue (at_scope (length levels + k) (map scoped_bound bs)) →
+  undone_bounds : (bs : List Bound) (k : ℕ) → OfEachBody IsUndone bs → IsTrue (all_at_scope (length levels + k) (map scoped_bound bs)) →
       all_some (map (unrenamed_bound levels n) (sub_each (map sub_bound_of bs) (terms k) (n + k))) ≡ Some bs
   undone_bounds [] k h scoped = refl
   undone_bounds (b ∷ bs) k h scoped =
       let first_scoped : IsTrue (scoped_bound b (length levels + k)) = grind (arith, common_steps) in
-      let rest : IsTrue (at_scope (length levels + k) (map scoped_bound bs)) = grind (arith, common_steps) in
+      let rest : IsTrue (all_at_scope (length levels + k) (map scoped_bound bs)) = grind (arith, common_steps) in
       let e : length levels + (k + b.binders) ≡ length levels + k + b.binders = omega arith in
       let here : IsTrue (in_scope_of b.body (length levels + (k + b.binders))) = rw e (rw scoped_bound-is at first_scoped) in
       let body = h.0 (k + b.binders) here in
@@ -128,7 +128,7 @@ module _ (levels : List ℕ) (n : ℕ) (distinct : IsDistinct nat_eq levels) (be
       ]
 
   abbrev Restores : List Bound → ℕ → List Bound → Type 0
-  Restores bs k made = (sub_each (map sub_bound_of made) (terms k) (n + k) ≡ bs) × IsTrue (at_scope (length levels + k) (map scoped_bound made))
+  Restores bs k made = (sub_each (map sub_bound_of made) (terms k) (n + k) ≡ bs) × IsTrue (all_at_scope (length levels + k) (map scoped_bound made))
 
   joined : (b : Bound) (bs : List Bound) (k : ℕ) (u : Term) (rest : List Bound) →
       (sub_of u (terms (k + b.binders)) (n + (k + b.binders)) ≡ b.body) × IsTrue (in_scope_of u (length levels + (k + b.binders))) →
@@ -160,12 +160,12 @@ module _ (levels : List ℕ) (n : ℕ) (distinct : IsDistinct nat_eq levels) (be
       let r = h bs refl in
       rw e (rw (sub-Op _ o ps bs (terms k) (n + k) refl, r.0) refl, rw in_scope-Op r.1)
 
-  restored_bounds : (bs : List Bound) (k : ℕ) (made : List Bound) → OfEachBody IsRestored bs → IsTrue (at_scope (n + k) (map scoped_bound bs)) →
+  restored_bounds : (bs : List Bound) (k : ℕ) (made : List Bound) → OfEachBody IsRestored bs → IsTrue (all_at_scope (n + k) (map scoped_bound bs)) →
       all_some (map (unrenamed_bound levels n) bs) ≡ Some made → Restores bs k made
   restored_bounds [] k made h scoped e = let none : made ≡ [] = cc in rw none (refl, refl)
   restored_bounds (b ∷ bs) k made h scoped e =
       let first_scoped : IsTrue (scoped_bound b (n + k)) = grind (arith, common_steps) in
-      let rest_scoped : IsTrue (at_scope (n + k) (map scoped_bound bs)) = grind (arith, common_steps) in
+      let rest_scoped : IsTrue (all_at_scope (n + k) (map scoped_bound bs)) = grind (arith, common_steps) in
       let e1 : n + (k + b.binders) ≡ n + k + b.binders = omega arith in
       let here : IsTrue (in_scope_of b.body (n + (k + b.binders))) = rw e1 (rw scoped_bound-is at first_scoped) in
       let apart = rw (all_some-cons, unrenamed_bound-is) at e in

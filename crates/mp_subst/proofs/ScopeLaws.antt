@@ -8,7 +8,7 @@ use Rattle.mp_term.specs.declared.term.Param.{Param}
 use Rattle.mp_term.specs.declared.term.Term.{Term, Var, Op}
 use Rattle.mp_term.specs.declared.term.Bound.{Bound}
 use Rattle.mp_term.specs.Induction.{OfEachBody, each_term}
-use Rattle.mp_term.specs.Terms.{in_scope_of, at_scope}
+use Rattle.mp_term.specs.Terms.{in_scope_of, all_at_scope}
 use Rattle.mp_term.proofs.Layers.{scoped_bound, in_scope-Var, in_scope-Op, scoped_bound-is}
 use Rattle.mp_subst.specs.Subst.{weak, weak_bound, under, sub_of, sub_bound_of, sub_each, AreInScope, widest_of, widest_at, width_bound, widest_in}
 use Rattle.mp_subst.proofs.Layers.{weak-Var, weak-Op, weak_bound-is, sub-Var, sub-Op, sub_bound-is, widest-Var, widest-Op, width_bound-is}
@@ -21,11 +21,11 @@ module _ (m k : ℕ) where
   stays_var : (i : ℕ) → StaysIn (Var i)
   stays_var i j h = let h' = rw in_scope-Var at h in rw (weak-Var, in_scope-Var) (grind (arith, nat_tests, h'))
 
-  stays_bounds : (bs : List Bound) (j : ℕ) → OfEachBody StaysIn bs → IsTrue (at_scope (m + j) (map scoped_bound bs)) → IsTrue (at_scope (m + k + j) (map scoped_bound (map (weak_bound m k) bs)))
+  stays_bounds : (bs : List Bound) (j : ℕ) → OfEachBody StaysIn bs → IsTrue (all_at_scope (m + j) (map scoped_bound bs)) → IsTrue (all_at_scope (m + k + j) (map scoped_bound (map (weak_bound m k) bs)))
   stays_bounds [] j h scoped = refl
   stays_bounds (b ∷ bs) j h scoped =
       let first_scoped : IsTrue (scoped_bound b (m + j)) = grind (arith, common_steps) in
-      let rest_scoped : IsTrue (at_scope (m + j) (map scoped_bound bs)) = grind (arith, common_steps) in
+      let rest_scoped : IsTrue (all_at_scope (m + j) (map scoped_bound bs)) = grind (arith, common_steps) in
       let e : m + j + b.binders ≡ m + (j + b.binders) = omega arith in
       let e' : m + k + j + b.binders ≡ m + k + (j + b.binders) = omega arith in
       let here = rw (scoped_bound-is, e) at first_scoped in
@@ -77,12 +77,12 @@ module _ (s : List Term) (m : ℕ) (all : AreInScope m s) where
         | inr high ↦ rw (under-high s m k i (Var i) high inside, in_scope-Var) (grind (arith, nat_tests))
       ])
 
-  lands_bounds : (bs : List Bound) (k : ℕ) → OfEachBody Lands bs → IsTrue (at_scope (length s + k) (map scoped_bound bs)) →
-      IsTrue (at_scope (m + k) (map scoped_bound (sub_each (map sub_bound_of bs) (under s m k) (m + k))))
+  lands_bounds : (bs : List Bound) (k : ℕ) → OfEachBody Lands bs → IsTrue (all_at_scope (length s + k) (map scoped_bound bs)) →
+      IsTrue (all_at_scope (m + k) (map scoped_bound (sub_each (map sub_bound_of bs) (under s m k) (m + k))))
   lands_bounds [] k h scoped = refl
   lands_bounds (b ∷ bs) k h scoped =
       let first_scoped : IsTrue (scoped_bound b (length s + k)) = grind (arith, common_steps) in
-      let rest_scoped : IsTrue (at_scope (length s + k) (map scoped_bound bs)) = grind (arith, common_steps) in
+      let rest_scoped : IsTrue (all_at_scope (length s + k) (map scoped_bound bs)) = grind (arith, common_steps) in
       let e : length s + k + b.binders ≡ length s + (k + b.binders) = omega arith in
       let e' : m + k + b.binders ≡ m + (k + b.binders) = omega arith in
       let here = rw (scoped_bound-is, e) at first_scoped in
@@ -115,12 +115,12 @@ module _ (s : List Term) (m : ℕ) where
         | inr high ↦ rw (under-high s m k i (Var i) high inside, widest-Var) (omega (arith, ge))
       ])
 
-  spreads_bounds : (bs : List Bound) (k : ℕ) → OfEachBody Spreads bs → IsTrue (at_scope (length s + k) (map scoped_bound bs)) →
+  spreads_bounds : (bs : List Bound) (k : ℕ) → OfEachBody Spreads bs → IsTrue (all_at_scope (length s + k) (map scoped_bound bs)) →
       widest_at (m + k) (map width_bound (sub_each (map sub_bound_of bs) (under s m k) (m + k))) + length s ≤ widest_at (length s + k) (map width_bound bs) + widest_in m s
   spreads_bounds [] k h scoped = omega (arith, widest_in-ge m s)
   spreads_bounds (b ∷ bs) k h scoped =
       let first_scoped : IsTrue (scoped_bound b (length s + k)) = grind (arith, common_steps) in
-      let rest_scoped : IsTrue (at_scope (length s + k) (map scoped_bound bs)) = grind (arith, common_steps) in
+      let rest_scoped : IsTrue (all_at_scope (length s + k) (map scoped_bound bs)) = grind (arith, common_steps) in
       let e : length s + k + b.binders ≡ length s + (k + b.binders) = omega arith in
       let e' : m + k + b.binders ≡ m + (k + b.binders) = omega arith in
       let here = rw (scoped_bound-is, e) at first_scoped in

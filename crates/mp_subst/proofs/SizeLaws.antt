@@ -8,7 +8,8 @@ use Rattle.mp_term.specs.declared.term.Param.{Param}
 use Rattle.mp_term.specs.declared.term.Term.{Term, Var, Op}
 use Rattle.mp_term.specs.declared.term.Bound.{Bound}
 use Rattle.mp_term.specs.Induction.{OfEachBody, each_term}
-use Rattle.mp_term.specs.Terms.{size_of, depth_of, greatest}
+use Rattle.mp_term.specs.Terms.{size_of, depth_of}
+use Rattle.mp_logic.specs.Lists.{greatest}
 use Rattle.mp_term.proofs.Layers.{size_bound, size-Var, size-Op, size_bound-is, depth_bound, depth-Var, depth-Op, depth_bound-is}
 use Rattle.mp_subst.specs.Subst.{weak, weak_bound, under, sub_of, sub_bound_of, sub_each}
 use Rattle.mp_subst.specs.Sizes.{sub_size, sub_size_bound, sub_depth, sub_depth_bound}

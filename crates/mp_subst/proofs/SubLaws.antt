@@ -7,7 +7,7 @@ use Rattle.std.proofs.lemmas.List.{map-append, get_or-map, get_or-append_right, 
 use Rattle.std.proofs.lemmas.Grind.{common_steps}
 use Rattle.mp_term.specs.declared.term.Term.{Term, Var, the_lemmas}
 use Rattle.mp_term.specs.declared.term.Bound.{Bound}
-use Rattle.mp_term.specs.Terms.{in_scope_of, at_scope}
+use Rattle.mp_term.specs.Terms.{in_scope_of, all_at_scope}
 use Rattle.mp_term.proofs.Layers.{scoped_bound}
 use Rattle.mp_subst.specs.Subst.{weak, variables, under, sub_of, sub_bound_of, sub_each, widest_in, widest_of, widest_at, width_bound, AreInScope}
 use Rattle.mp_subst.proofs.Layers.{weak-Var, width_bound-is}
@@ -120,7 +120,7 @@ made_width_within b s m n scope h =
 
 -- what the loop over the bound subterms keeps
 pub record Replaced (items made : List Bound) (i scope : ℕ) (terms : List Term) (inner : ℕ) : Type 0 where
-  pub scoped : IsTrue (at_scope scope (map scoped_bound (drop i items)))
+  pub scoped : IsTrue (all_at_scope scope (map scoped_bound (drop i items)))
   pub narrow : widest_at scope (map width_bound (drop i items)) < 2 ^ 31
   pub made_narrow : widest_at inner (map width_bound (sub_each (map sub_bound_of (drop i items)) terms inner)) < 2 ^ 31
   pub done : made ++ sub_each (map sub_bound_of (drop i items)) terms inner ≡ sub_each (map sub_bound_of items) terms inner

@@ -1,7 +1,8 @@
 -- The laws of weakening and of substitution, each as one statement.
 use Rattle.std.specs.Prelude.{◌≡◌, ℕ, ◌+◌, ◌*◌, ◌≤◌, max, List, ◌++◌, map, length, IsTrue, All}
 use Rattle.mp_term.specs.declared.term.Term.{Term}
-use Rattle.mp_term.specs.Terms.{size_of, depth_of, greatest, in_scope_of}
+use Rattle.mp_term.specs.Terms.{size_of, depth_of, in_scope_of}
+use Rattle.mp_logic.specs.Lists.{greatest}
 use Rattle.mp_term.specs.Limits.{few_binders_of}
 use Rattle.mp_subst.specs.Subst.{weak, variables, sub_of, AreInScope, widest_of, widest_in}
 use Rattle.mp_subst.specs.Sizes.{sub_size, sub_depth}

@@ -5,7 +5,8 @@ use Rattle.mp_term.specs.declared.term.Term.{Term, Term-F}
 use Rattle.mp_term.specs.declared.term.Bound.{Bound}
 use Rattle.mp_term.specs.declared.term.Term.TheOpen as layer
 use Rattle.mp_term.specs.declared.term.Term.TheFolds.{fold-Term, fold-Bound}
-use Rattle.mp_term.specs.Terms.{body_step, greatest}
+use Rattle.mp_term.specs.Terms.{body_step}
+use Rattle.mp_logic.specs.Lists.{greatest}
 
 module _ (sizes : List ℕ) where
   -- the size of one layer of a term under these sizes of its first variables

@@ -5,7 +5,8 @@ use Rattle.mp_logic.specs.declared.sym.Sym.{Sym}
 use Rattle.mp_term.specs.declared.term.Param.{Param}
 use Rattle.mp_term.specs.declared.term.Term.{Var, Op, the_lemmas}
 use Rattle.mp_term.specs.declared.term.Bound.{Bound, fold-Bound}
-use Rattle.mp_term.specs.Terms.{size_of, size_step, depth_of, depth_step, body_step, greatest, in_scope_of, at_scope, Scoped, scope_step, scope_bound_step, all_true}
+use Rattle.mp_term.specs.Terms.{size_of, size_step, depth_of, depth_step, body_step, in_scope_of, all_at_scope, ScopeTest, scope_step, scope_bound_step, all_true}
+use Rattle.mp_logic.specs.Lists.{greatest}
 use Rattle.mp_term.specs.Limits.{few_binders_of, few_binders_step, few_binders_bound_step}
 
 abbrev pub size_bound : Bound → ℕ
@@ -32,13 +33,13 @@ depth-Op o ps bs = search (rules, the_lemmas)
 pub depth_bound-is : (b : Bound) → depth_bound b ≡ depth_of b.body
 depth_bound-is b = search (rules, the_lemmas)
 
-abbrev pub scoped_bound : Bound → Scoped
-scoped_bound = fold-Bound Scoped Scoped scope_step scope_bound_step
+abbrev pub scoped_bound : Bound → ScopeTest
+scoped_bound = fold-Bound ScopeTest ScopeTest scope_step scope_bound_step
 
 pub in_scope-Var : (level n : ℕ) → in_scope_of (Var level) n ≡ nat_lt level n
 in_scope-Var level n = search (rules, the_lemmas)
 
-pub in_scope-Op : (o : Sym) (ps : List Param) (subs : List Bound) (n : ℕ) → in_scope_of (Op o ps subs) n ≡ at_scope n (map scoped_bound subs)
+pub in_scope-Op : (o : Sym) (ps : List Param) (subs : List Bound) (n : ℕ) → in_scope_of (Op o ps subs) n ≡ all_at_scope n (map scoped_bound subs)
 in_scope-Op o ps subs n = search (rules, the_lemmas)
 
 pub scoped_bound-is : (b : Bound) (n : ℕ) → scoped_bound b n ≡ in_scope_of b.body (n + b.binders)

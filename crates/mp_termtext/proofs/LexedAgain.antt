@@ -22,7 +22,7 @@ use Rattle.mp_term.specs.declared.term.Term.{Term, Var, Op}
 use Rattle.mp_term.specs.declared.term.Bound.{Bound}
 use Rattle.mp_term.specs.declared.sequent.Sequent.{Sequent}
 use Rattle.mp_term.specs.Induction.{OfEachBody, each_term}
-use Rattle.mp_termtext.specs.Printing.{at_scope, binders_text, bound_text, escaped, further_binders_text, further_hyps_text, further_text, hyp_text, hyps_text, list_text, name_text, param_text, quoted, sequent_text, term_text}
+use Rattle.mp_termtext.specs.Printing.{text_at_scope, binders_text, bound_text, escaped, further_binders_text, further_hyps_text, further_text, hyp_text, hyps_text, list_text, name_text, param_text, quoted, sequent_text, term_text}
 use Rattle.mp_termtext.specs.Round.{fits_i64, is_written_param}
 use Rattle.mp_words.specs.Words.{Piece, piece_of, pieces_of}
 use Rattle.mp_termtext.proofs.NumberTexts.{digits_of-decimal, is_number-signed_decimal, small-name_text}
@@ -303,7 +303,7 @@ module _ (names : List (List ℕ)) where
       subst (LexesPair m) (λ i. (sym (bound_text-is names k s) i, sym (bound_pieces-is names k s) i))
       (bound_by m k.binders s (term_text names k.body (s + k.binders)) (term_pieces names k.body (s + k.binders)) (omega (arith, n)) (f (s + k.binders) m h.body))
 
-  all_subs : (ks : List Bound) → OfEachBody Lexed ks → (s m n : ℕ) → m + 1 ≤ n → FitBounds names s m ks → AllLex n (map (at_scope s) (map (bound_text names) ks)) (map (pieces_at s) (map (bound_pieces names) ks))
+  all_subs : (ks : List Bound) → OfEachBody Lexed ks → (s m n : ℕ) → m + 1 ≤ n → FitBounds names s m ks → AllLex n (map (text_at_scope s) (map (bound_text names) ks)) (map (pieces_at s) (map (bound_pieces names) ks))
   all_subs [] f s m n le h = tt
   all_subs (k ∷ ks) f s m n le h = (
     roomier Stops 1 1 (m + 1) n (bound_text names k s) (bound_pieces names k s) le (inside Stops m (bound_text names k s) (bound_pieces names k s) (a_bound k f.0 s m (first_sub names k ks s m h))),
@@ -314,7 +314,7 @@ module _ (names : List (List ℕ)) where
   lexed_op o ps ks f s m h =
       let some = some_depth names o ps ks s m h in
       let params = map (param_text names) ps in
-      let subs = map (at_scope s) (map (bound_text names) ks) in
+      let subs = map (text_at_scope s) (map (bound_text names) ks) in
       let sub_pieces = map (pieces_at s) (map (bound_pieces names) ks) in
       let b = mark_piece (codes "[") in let c = mark_piece (codes "]") in let d = mark_piece (codes "{") in let e = mark_piece (codes "}") in
       let name = text_of names o.0 in

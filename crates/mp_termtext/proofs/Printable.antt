@@ -11,7 +11,8 @@ use Rattle.mp_lex.specs.Forms.{is_text}
 use Rattle.mp_term.specs.declared.term.Param.{Param}
 use Rattle.mp_term.specs.declared.term.Term.{Term, Var, Op}
 use Rattle.mp_term.specs.declared.term.Bound.{Bound}
-use Rattle.mp_term.specs.Terms.{all_true, at_scope, depth_of, greatest, in_scope_of}
+use Rattle.mp_term.specs.Terms.{all_true, all_at_scope, depth_of, in_scope_of}
+use Rattle.mp_logic.specs.Lists.{greatest}
 use Rattle.mp_term.specs.Limits.{few_binders_of}
 use Rattle.mp_term.proofs.Layers.{depth_bound, depth_bound-is, depth-Op, few_bound, few_bound-is, few-Op, in_scope-Var, in_scope-Op, scoped_bound, scoped_bound-is}
 use Rattle.mp_termtext.specs.Round.{is_written, is_written_param}
@@ -32,7 +33,7 @@ module _ (names : List (List ℕ)) where
 
   -- subterms in scope s whose bodies are no deeper than m
   pub record FitBounds (s m : ℕ) (ks : List Bound) : Type 0 where
-    pub scoped : at_scope s (map scoped_bound ks) ≡ true
+    pub scoped : all_at_scope s (map scoped_bound ks) ≡ true
     pub few : all_true (map few_bound ks) ≡ true
     pub written : all_true (map (written_bound names) ks) ≡ true
     pub shallow : greatest (map depth_bound ks) ≤ m
@@ -84,7 +85,7 @@ module _ (names : List (List ℕ)) where
       record {
         count = count;
         body = record {
-          scoped = sym (scoped_bound-is k s) ∙ (and_parts (scoped_bound k s) (at_scope s (map scoped_bound ks)) h.scoped).0;
+          scoped = sym (scoped_bound-is k s) ∙ (and_parts (scoped_bound k s) (all_at_scope s (map scoped_bound ks)) h.scoped).0;
           few = few.1;
           written = sym (written_bound-is names k) ∙ (and_parts (written_bound names k) (all_true (map (written_bound names) ks)) h.written).0;
           shallow = omega (arith, d, e);
@@ -96,7 +97,7 @@ module _ (names : List (List ℕ)) where
   further_subs k ks s m h =
       let d = h.shallow in
       record {
-        scoped = (and_parts (scoped_bound k s) (at_scope s (map scoped_bound ks)) h.scoped).1;
+        scoped = (and_parts (scoped_bound k s) (all_at_scope s (map scoped_bound ks)) h.scoped).1;
         few = (and_parts (few_bound k) (all_true (map few_bound ks)) h.few).1;
         written = (and_parts (written_bound names k) (all_true (map (written_bound names) ks)) h.written).1;
         shallow = omega (arith, d);

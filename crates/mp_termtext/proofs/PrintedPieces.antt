@@ -16,7 +16,7 @@ use Rattle.mp_term.specs.declared.term.Term.TheFolds.{fold-Term}
 use Rattle.mp_term.specs.declared.term.Bound.{Bound, Bound-F, fold-Bound}
 use Rattle.mp_term.specs.declared.sequent.Sequent.{Sequent}
 use Rattle.mp_term.specs.Terms.{all_true, body_step}
-use Rattle.mp_termtext.specs.Printing.{at_scope, binders_text, bound_text, list_text, name_text, param_text, quoted, term_text}
+use Rattle.mp_termtext.specs.Printing.{text_at_scope, binders_text, bound_text, list_text, name_text, param_text, quoted, term_text}
 use Rattle.mp_termtext.specs.Round.{is_written, is_written_param, written_step}
 use Rattle.mp_words.specs.Words.{Piece}
 
@@ -98,7 +98,7 @@ module _ (names : List (List ℕ)) where
   pub text-Var : (l s : ℕ) → term_text names (Var l) s ≡ codes "'" ++ name_text l
   text-Var l s = search (rules, the_lemmas)
 
-  pub text-Op : (o : Sym) (ps : List Param) (ks : List Bound) (s : ℕ) → term_text names (Op o ps ks) s ≡ text_of names o.0 ++ list_text (codes "[") (codes "]") (map (param_text names) ps) ++ list_text (codes "{") (codes "}") (map (at_scope s) (map (bound_text names) ks))
+  pub text-Op : (o : Sym) (ps : List Param) (ks : List Bound) (s : ℕ) → term_text names (Op o ps ks) s ≡ text_of names o.0 ++ list_text (codes "[") (codes "]") (map (param_text names) ps) ++ list_text (codes "{") (codes "}") (map (text_at_scope s) (map (bound_text names) ks))
   text-Op o ps ks s = search (rules, the_lemmas)
 
   pub bound_text-is : (b : Bound) (s : ℕ) → bound_text names b s ≡ binders_text s b.binders ++ term_text names b.body (s + b.binders)

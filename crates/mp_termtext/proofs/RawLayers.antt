@@ -9,7 +9,7 @@ use Rattle.mp_termtext.specs.declared.raw.RawBound.{RawBound, fold-RawBound}
 use Rattle.mp_termtext.specs.declared.raw.RawTerm.{Var, Op, the_lemmas}
 use Rattle.mp_words.specs.Faults.{too_many}
 use Rattle.mp_termtext.specs.Statics.{bound_faults_of, deep, each_faults, faults_of, level_of, names_of, raw_size_of, raw_size_step, raw_size_bound_step, unless_bound}
-use Rattle.mp_termtext.specs.Values.{bound_value_of, each_value, value_of}
+use Rattle.mp_termtext.specs.Values.{bound_value_of, each_subterm_value, value_of}
 
 pub faults-Var : (free : ℕ) (n : Sym) (k : Option ℕ) (l : ℕ) (env : List Sym) (d : ℕ) → faults_of free (Var n k l) env d ≡ deep d l ++ unless_bound l (level_of free env n k)
 faults-Var free n k l env d = search (rules, the_lemmas)
@@ -23,7 +23,7 @@ bound_faults-is free k env d = search (rules, the_lemmas)
 pub value-Var : (free : ℕ) (n : Sym) (k : Option ℕ) (l : ℕ) (env : List Sym) → value_of free (Var n k l) env ≡ term.Var (unwrap_or (level_of free env n k) 0)
 value-Var free n k l env = search (rules, the_lemmas)
 
-pub value-Op : (free : ℕ) (n : Sym) (ps : List RawParam) (ks : List RawBound) (l : ℕ) (env : List Sym) → value_of free (Op n ps ks l) env ≡ term.Op n (map (λ p. p.value) ps) (each_value (map (bound_value_of free) ks) env)
+pub value-Op : (free : ℕ) (n : Sym) (ps : List RawParam) (ks : List RawBound) (l : ℕ) (env : List Sym) → value_of free (Op n ps ks l) env ≡ term.Op n (map (λ p. p.value) ps) (each_subterm_value (map (bound_value_of free) ks) env)
 value-Op free n ps ks l env = search (rules, the_lemmas)
 
 pub bound_value-is : (free : ℕ) (k : RawBound) (env : List Sym) → (let b : Bound = record { binders = length k.binders; body = value_of free k.body (env ++ names_of k.binders) } in bound_value_of free k env ≡ b)

@@ -37,7 +37,7 @@ use Rattle.mp_termtext.specs.Grammar.{AreHyps, IsHyp, IsSequent, IsParamWord, Is
 use Rattle.mp_termtext.specs.Printing.{name_text, quoted}
 use Rattle.mp_termtext.specs.Round.{is_written_param}
 use Rattle.mp_termtext.specs.Statics.{bound_faults_of, deep, each_faults, faults_of, hyp_names, hyps_faults, level_of, names_of, raw_sequent_size_of, raw_size_of, sequent_faults, unless_bound}
-use Rattle.mp_termtext.specs.Values.{bound_value_of, each_value, hyps_value, sequent_value, value_of}
+use Rattle.mp_termtext.specs.Values.{bound_value_of, each_subterm_value, hyps_value, sequent_value, value_of}
 use Rattle.mp_words.specs.Words.{Piece, keyword_of, numbered_of, sym_of, word_of}
 use Rattle.mp_termtext.proofs.Faultless.{length-hyp_names}
 use Rattle.mp_termtext.proofs.LevelNames.{IsNamed, length-names_from, level_again, name_at, names_from, names_join}
@@ -186,14 +186,14 @@ module _ (names table : List (List ℕ)) (e : Extends names table) (distinct : A
     record BoundsAgain (ks : List Bound) (n d : ℕ) (ts rest : List Word) : Type 0 where
       raws : List RawBound
       is : AreBounds raws ts rest
-      value : each_value (map (bound_value_of free) raws) (env n) ≡ ks
+      value : each_subterm_value (map (bound_value_of free) raws) (env n) ≡ ks
       faultless : each_faults (map (bound_faults_of free) raws) (env n) d ≡ []
       size : sum (map raw_size_bound raws) ≡ sum (map size_bound ks)
 
     record SubsAgain (ks : List Bound) (n d : ℕ) (ts rest : List Word) : Type 0 where
       raws : List RawBound
       is : AreSubs raws ts rest
-      value : each_value (map (bound_value_of free) raws) (env n) ≡ ks
+      value : each_subterm_value (map (bound_value_of free) raws) (env n) ≡ ks
       faultless : each_faults (map (bound_faults_of free) raws) (env n) d ≡ []
       size : sum (map raw_size_bound raws) ≡ sum (map size_bound ks)
 

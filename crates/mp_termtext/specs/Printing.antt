@@ -49,30 +49,30 @@ binders_text level zero = []
 binders_text level (suc n) = name_text level ++ further_binders_text (level + 1) n
 
 -- what is printed where so many variables are in scope
-abbrev pub Scoped : Type 0
-Scoped = ℕ → List ℕ
+abbrev pub ScopedText : Type 0
+ScopedText = ℕ → List ℕ
 
 -- what is printed, where so many variables are in scope
-abbrev pub at_scope : ℕ → Scoped → List ℕ
-at_scope scope text = text scope
+abbrev pub text_at_scope : ℕ → ScopedText → List ℕ
+text_at_scope scope text = text scope
 
 -- the text of a variable or an operator, by the texts of its subterms
-abbrev pub term_step : List (List ℕ) → Term-F Scoped Scoped → Scoped
+abbrev pub term_step : List (List ℕ) → Term-F ScopedText ScopedText → ScopedText
 term_step names (layer.Var level) scope = codes "'" ++ name_text level
 term_step names (layer.Op op params subs) scope =
-    text_of names op.0 ++ list_text (codes "[") (codes "]") (map (param_text names) params) ++ list_text (codes "{") (codes "}") (map (at_scope scope) subs)
+    text_of names op.0 ++ list_text (codes "[") (codes "]") (map (param_text names) params) ++ list_text (codes "{") (codes "}") (map (text_at_scope scope) subs)
 
 -- the text of a subterm, by the text of its body
-abbrev pub bound_step : Bound-F Scoped Scoped → Scoped
+abbrev pub bound_step : Bound-F ScopedText ScopedText → ScopedText
 bound_step b scope = binders_text scope b.binders ++ b.body (scope + b.binders)
 
 -- a term where so many variables are in scope: `'x3`, or an operator with its parameters and subterms
 abbrev pub term_text : List (List ℕ) → Term → ℕ → List ℕ
-term_text names = fold-Term Scoped Scoped (term_step names) bound_step
+term_text names = fold-Term ScopedText ScopedText (term_step names) bound_step
 
 -- a subterm after its binders, which are the next levels
 abbrev pub bound_text : List (List ℕ) → Bound → ℕ → List ℕ
-bound_text names = fold-Bound Scoped Scoped (term_step names) bound_step
+bound_text names = fold-Bound ScopedText ScopedText (term_step names) bound_step
 
 -- a hypothesis that is the variable of this level, in the scope of those before it
 abbrev pub hyp_text : List (List ℕ) → ℕ → Term → List ℕ

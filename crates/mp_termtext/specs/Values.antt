@@ -13,26 +13,26 @@ use Rattle.mp_termtext.specs.declared.raw.RawSequent.{RawSequent}
 use Rattle.mp_termtext.specs.Statics.{bound_faults_of, each_faults, faults_of, hyp_names, level_of, names_of}
 
 -- the subterms after the same names
-abbrev pub each_value : List (List Sym → Bound) → List Sym → List Bound
-each_value [] env = []
-each_value (s ∷ ss) env = s env ∷ each_value ss env
+abbrev pub each_subterm_value : List (List Sym → Bound) → List Sym → List Bound
+each_subterm_value [] env = []
+each_subterm_value (s ∷ ss) env = s env ∷ each_subterm_value ss env
 
 -- the value of a variable or an operator, by those of its subterms
-abbrev pub value_step : ℕ → RawTerm-F (List Sym → Term) (List Sym → Bound) → List Sym → Term
-value_step free (layer.Var name k l) env = Var (unwrap_or (level_of free env name k) 0)
-value_step free (layer.Op name ps subs l) env = Op name (map (λ p. p.value) ps) (each_value subs env)
+abbrev pub term_value_step : ℕ → RawTerm-F (List Sym → Term) (List Sym → Bound) → List Sym → Term
+term_value_step free (layer.Var name k l) env = Var (unwrap_or (level_of free env name k) 0)
+term_value_step free (layer.Op name ps subs l) env = Op name (map (λ p. p.value) ps) (each_subterm_value subs env)
 
 -- the value of a subterm, by that of its body
-abbrev pub value_bound_step : RawBound-F (List Sym → Term) (List Sym → Bound) → List Sym → Bound
-value_bound_step b env = record { binders = length b.binders; body = b.body (env ++ names_of b.binders) }
+abbrev pub term_value_bound_step : RawBound-F (List Sym → Term) (List Sym → Bound) → List Sym → Bound
+term_value_bound_step b env = record { binders = length b.binders; body = b.body (env ++ names_of b.binders) }
 
 -- the term that is written, where these names are bound after so many free ones
 abbrev pub value_of : ℕ → RawTerm → List Sym → Term
-value_of free = fold-RawTerm (List Sym → Term) (List Sym → Bound) (value_step free) value_bound_step
+value_of free = fold-RawTerm (List Sym → Term) (List Sym → Bound) (term_value_step free) term_value_bound_step
 
 -- the subterm that is written, with the number of its binders
 abbrev pub bound_value_of : ℕ → RawBound → List Sym → Bound
-bound_value_of free = fold-RawBound (List Sym → Term) (List Sym → Bound) (value_step free) value_bound_step
+bound_value_of free = fold-RawBound (List Sym → Term) (List Sym → Bound) (term_value_step free) term_value_bound_step
 
 -- the term that is all of a text
 abbrev pub term_value : ℕ → RawTerm → Term

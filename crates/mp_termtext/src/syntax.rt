@@ -43,7 +43,10 @@ impl Reader for RawParam {
 }
 
 /// Reads parameters between brackets; there are none where no bracket opens.
-pub(crate) fn parse_params(alloc: Global, words: &[Word]) -> Result<(List<RawParam>, &[Word]), ReadFail>
+pub(crate) fn parse_params(
+    alloc: Global,
+    words: &[Word],
+) -> Result<(List<RawParam>, &[Word]), ReadFail>
     ensures reads { Reads (λ x. (x.0, x.1.now)) AreParams StuckParams words.now result }
     ensures within { IfOk result (λ x. length x.1.now ≤ length words.now) }
 {

@@ -11,6 +11,7 @@ use Rattle.mp_theory.specs.declared.just.Just.{Just}
 use Rattle.mp_theory.specs.declared.just.Just.TheVariants as just
 use Rattle.mp_theory.specs.Needs.{needs_of}
 use Rattle.mp_theory.specs.Tables.{is_faultless}
+use Rattle.mp_logic.specs.Lists.{same_bool}
 
 -- each term is in its scope, no subterm has more than 8 binders, and the sequent is within the limits
 abbrev pub is_good : Sequent → Bool
@@ -29,12 +30,6 @@ are_for [] [] = true
 are_for [] (g ∷ gs) = false
 are_for (n ∷ ns) [] = false
 are_for (n ∷ ns) (g ∷ gs) = is_for n g && are_for ns gs
-
--- the two tests are equal
-abbrev pub same_bool : Bool → Bool → Bool
-same_bool true b = b
-same_bool false true = false
-same_bool false false = true
 
 -- the rule is there and may be a theory's, and the size and the given terms are as it asks
 abbrev pub is_allowed_at : Option Rule → Option ℕ → List Given → Bool

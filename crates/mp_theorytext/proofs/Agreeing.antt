@@ -9,7 +9,7 @@ use Rattle.std.proofs.lemmas.List.Folds.{flat_map-map}
 use Rattle.mp_logic.specs.declared.sym.Sym.{Sym}
 use Rattle.mp_schema.specs.Conditions.{has, has_all, is_apart}
 use Rattle.mp_schema.specs.Faults.{are_distinct, has_level}
-use Rattle.mp_schema.specs.Occurrences.{Occurrence, level_of, occurrences_in, occurrences_in_bound}
+use Rattle.mp_schema.specs.Occurrences.{Occurrence, variable_level, occurrences_in, occurrences_in_bound}
 use Rattle.mp_schema.proofs.Names.{has-append}
 use Rattle.mp_schema.proofs.Layers.{level_of-Var, occurrences_in-Var, occurrences_in-Op, occurrences_in-Meta, occurrences_in_bound-is}
 use Rattle.mp_words.specs.declared.fail.TextWhy.TheVariants as why
@@ -22,9 +22,9 @@ use Rattle.mp_schematext.specs.declared.raw.RawPatternBound.{RawPatternBound}
 use Rattle.mp_schematext.specs.declared.raw.RawPattern.{RawPattern, the_lemmas}
 use Rattle.mp_schematext.specs.declared.raw.RawPattern as raw
 use Rattle.mp_theorytext.specs.declared.uses.First.{First}
-use Rattle.mp_theorytext.specs.Scopes.{level_in, names_in}
-use Rattle.mp_theorytext.specs.Values.{in_32_bits, each_value, pattern_of, bound_of}
-use Rattle.mp_theorytext.specs.Uses.{Argument, Use, Shown, shown, argument_of, uses_in, uses_in_bound, list_faults, argument_faults, unless_new, variable_name, option_list, first_of}
+use Rattle.mp_theorytext.specs.Scopes.{level_in, syms_of}
+use Rattle.mp_theorytext.specs.Values.{in_32_bits, each_pattern_value, pattern_of, bound_of}
+use Rattle.mp_theorytext.specs.Uses.{Argument, Use, Shown, shown, argument_of, uses_in, uses_in_bound, list_faults, argument_faults, unless_new, variable_name, option_list, first_use_of}
 use Rattle.mp_theorytext.specs.Statics.{node_faults, bound_node_faults}
 use Rattle.mp_schematext.proofs.RawInduction.{OfEachBody, OfEachArg, each_raw, each_args}
 use Rattle.mp_theorytext.proofs.RawLayers.{pattern_of-Var, pattern_of-Op, pattern_of-Meta, bound_of-is}
@@ -71,7 +71,7 @@ one_level env a b l e f = one_name_at env a b l (placed (place_in env a) l e) (p
 
 -- an argument is no variable, or one that is bound
 abbrev Bound : List Sym → RawPattern → Type 0
-Bound env p = (name : Sym) × (l : ℕ) × ((argument_of p).variable ≡ Some name) × (level_in env name ≡ Some l) × (level_of (pattern_of p env) ≡ Some l)
+Bound env p = (name : Sym) × (l : ℕ) × ((argument_of p).variable ≡ Some name) × (level_in env name ≡ Some l) × (variable_level (pattern_of p env) ≡ Some l)
 
 abbrev ArgumentIs : RawPattern → Type 0
 ArgumentIs p = (env : List Sym) (d : ℕ) → length env < 4294967296 → node_faults p env d ≡ [] → ((argument_of p).variable ≡ None) ⊎ Bound env p
@@ -91,13 +91,13 @@ var_bound n l env d short h =
     let lt = level_below env n i e in
     let small : min i 4294967295 ≡ i = omega (arith, lt, short) in
     let level : in_32_bits (unwrap_or (level_in env n) 0) ≡ i = ap (λ o. in_32_bits (unwrap_or o 0)) e ∙ small in
-    inr (n, i, ap (λ (a : Argument). a.variable) (argument_of-Var n l), e, ap level_of (pattern_of-Var n l env) ∙ level_of-Var _ ∙ ap (λ (k : ℕ). Some k) level)
+    inr (n, i, ap (λ (a : Argument). a.variable) (argument_of-Var n l), e, ap variable_level (pattern_of-Var n l env) ∙ level_of-Var _ ∙ ap (λ (k : ℕ). Some k) level)
 
 argument_is : (p : RawPattern) → ArgumentIs p
 argument_is = each_raw ArgumentIs var_bound (λ n ps ks l ih env d short h. inl (argument_of-Op n ps ks l)) (λ n cs xs l ih env d short h. inl (argument_of-Meta n cs xs l))
 
 abbrev pub levels_of : List RawPattern → List Sym → List (Option ℕ)
-levels_of xs env = map level_of (each_value (map pattern_of xs) env)
+levels_of xs env = map variable_level (each_pattern_value (map pattern_of xs) env)
 
 -- distinct, and none is the level of one of these names
 record Apart (earlier env : List Sym) (levels : List (Option ℕ)) : Type 0 where
@@ -165,7 +165,7 @@ apart_levels (x ∷ xs) env d earlier short h a = by (λ known k. apart_levels x
     first : (unless_new earlier arg.left arg.variable ≡ []) × (argument_faults (earlier ++ variable_name arg) (map argument_of xs) ≡ [])
     first = nil_parts (unless_new earlier arg.left arg.variable) (argument_faults (earlier ++ variable_name arg) (map argument_of xs)) a
 
-    by : ((known : List Sym) → argument_faults known (map argument_of xs) ≡ [] → Apart known env (levels_of xs env)) → (arg.variable ≡ None) ⊎ Bound env x → Apart earlier env (level_of (pattern_of x env) ∷ levels_of xs env)
+    by : ((known : List Sym) → argument_faults known (map argument_of xs) ≡ [] → Apart known env (levels_of xs env)) → (arg.variable ≡ None) ⊎ Bound env x → Apart earlier env (variable_level (pattern_of x env) ∷ levels_of xs env)
     by ih (inl none) = absurd (no_variable earlier arg.left arg.variable none first.0)
     by ih (inr (name, l, v, e, level)) =
         let names : earlier ++ variable_name arg ≡ earlier ++ name ∷ [] = ap (λ o. earlier ++ option_list o) v in
@@ -180,7 +180,7 @@ used_of o = record { is_context = o.is_context; name = o.name; ctxs = o.ctxs; ar
 
 -- the use is this occurrence
 pub record Agrees (known : List Sym) (final : Bool) (u : Use) (o : Occurrence) : Type 0 where
-  pub same : first_of u ≡ used_of o
+  pub same : first_use_of u ≡ used_of o
   pub behind : u.known ≡ known
   pub ends : u.in_conclusion ≡ final
   pub apart : argument_faults [] u.args ≡ [] → are_distinct o.levels ≡ true
@@ -202,15 +202,15 @@ carried known final us vs os ps e f h = subst (λ (q : List Use × List Occurren
 
 -- a use with these arguments is the occurrence that stands for it
 pub agrees : (kind : Bool) (n : Sym) (left : ℕ) (cs : List RawName) (xs : List RawPattern) (known : List Sym) (final : Bool) (env : List Sym) (d : ℕ) → length env < 4294967296 → each_faults (map node_faults xs) env d ≡ []
-    → Agrees known final (record { is_context = kind; name = n; left = left; ctxs = cs; args = map argument_of xs; known = known; in_conclusion = final }) (record { is_context = kind; name = n; ctxs = names_in cs; levels = levels_of xs env })
+    → Agrees known final (record { is_context = kind; name = n; left = left; ctxs = cs; args = map argument_of xs; known = known; in_conclusion = final }) (record { is_context = kind; name = n; ctxs = syms_of cs; levels = levels_of xs env })
 agrees kind n left cs xs known final env d short h =
     let args = length-map xs argument_of in
     let values = length-each (map pattern_of xs) env in
     let patterns = length-map xs pattern_of in
-    let levels = length-map (each_value (map pattern_of xs) env) level_of in
+    let levels = length-map (each_pattern_value (map pattern_of xs) env) variable_level in
     let many : length (map argument_of xs) ≡ length (levels_of xs env) = omega (arith, args, values, patterns, levels) in
     record {
-      same = (λ i. record { is_context = kind; name = n; ctxs = names_in cs; arity = many i });
+      same = (λ i. record { is_context = kind; name = n; ctxs = syms_of cs; arity = many i });
       behind = refl;
       ends = refl;
       apart = λ a. (apart_levels xs env d [] short h a).distinct;
@@ -223,7 +223,7 @@ var_uses : (n : Sym) (l : ℕ) → HasUses (raw.Var n l)
 var_uses n l known final env d short h = carried known final _ [] _ [] (uses_in-Var n l known final) (ap occurrences_in (pattern_of-Var n l env) ∙ occurrences_in-Var _) tt
 
 body_uses : (ks : List RawPatternBound) → OfEachBody HasUses ks → (known : List Sym) (final : Bool) (env : List Sym) (d : ℕ) → length env ≤ 184 + 8 * d → each_faults (map bound_node_faults ks) env d ≡ []
-    → AllAgree known final (flat_map (λ us. us known final) (map uses_in_bound ks)) (flat_map occurrences_in_bound (each_value (map bound_of ks) env))
+    → AllAgree known final (flat_map (λ us. us known final) (map uses_in_bound ks)) (flat_map occurrences_in_bound (each_pattern_value (map bound_of ks) env))
 body_uses [] ih known final env d short h = tt
 body_uses (k ∷ ks) ih known final env d short h =
     let both = nil_parts (bound_node_faults k env d) (each_faults (map bound_node_faults ks) env d) h in
@@ -231,16 +231,16 @@ body_uses (k ∷ ks) ih known final env d short h =
     let inner = env ++ names_of k.binders in
     let a = length-append env (names_of k.binders) in let m = length-map k.binders (λ b. b.name) in
     let here = ih.0 known final inner d (omega (arith, a, m, few, short)) (body_faultless k env d both.0) in
-    agree-append known final (uses_in_bound k known final) (flat_map (λ us. us known final) (map uses_in_bound ks)) (occurrences_in_bound (bound_of k env)) (flat_map occurrences_in_bound (each_value (map bound_of ks) env))
+    agree-append known final (uses_in_bound k known final) (flat_map (λ us. us known final) (map uses_in_bound ks)) (occurrences_in_bound (bound_of k env)) (flat_map occurrences_in_bound (each_pattern_value (map bound_of ks) env))
     (carried known final _ (uses_in k.body known final) _ (occurrences_in (pattern_of k.body inner)) (uses_in_bound-is k known final) (ap occurrences_in_bound (bound_of-is k env) ∙ occurrences_in_bound-is _) here)
     (body_uses ks ih.1 known final env d short both.1)
 
 argument_uses : (xs : List RawPattern) → OfEachArg HasUses xs → (known : List Sym) (final : Bool) (env : List Sym) (d : ℕ) → length env ≤ 192 + 8 * d → each_faults (map node_faults xs) env d ≡ []
-    → AllAgree known final (flat_map (λ (a : Shown). a.uses known final) (map shown xs)) (flat_map occurrences_in (each_value (map pattern_of xs) env))
+    → AllAgree known final (flat_map (λ (a : Shown). a.uses known final) (map shown xs)) (flat_map occurrences_in (each_pattern_value (map pattern_of xs) env))
 argument_uses [] ih known final env d short h = tt
 argument_uses (x ∷ xs) ih known final env d short h =
     let both = nil_parts (node_faults x env d) (each_faults (map node_faults xs) env d) h in
-    agree-append known final (uses_in x known final) (flat_map (λ (a : Shown). a.uses known final) (map shown xs)) (occurrences_in (pattern_of x env)) (flat_map occurrences_in (each_value (map pattern_of xs) env))
+    agree-append known final (uses_in x known final) (flat_map (λ (a : Shown). a.uses known final) (map shown xs)) (occurrences_in (pattern_of x env)) (flat_map occurrences_in (each_pattern_value (map pattern_of xs) env))
     (ih.0 known final env d short both.0) (argument_uses xs ih.1 known final env d short both.1)
 
 op_uses : (n : Sym) (ps : List RawParamPat) (ks : List RawPatternBound) (l : ℕ) → OfEachBody HasUses ks → HasUses (raw.Op n ps ks l)
@@ -260,7 +260,7 @@ pub has_uses : (p : RawPattern) → HasUses p
 has_uses = each_raw HasUses var_uses op_uses meta_uses
 
 pub each_has_uses : (xs : List RawPattern) (known : List Sym) (final : Bool) (env : List Sym) (d : ℕ) → length env ≤ 192 + 8 * d → each_faults (map node_faults xs) env d ≡ []
-    → AllAgree known final (flat_map (λ p. uses_in p known final) xs) (flat_map occurrences_in (each_value (map pattern_of xs) env))
+    → AllAgree known final (flat_map (λ p. uses_in p known final) xs) (flat_map occurrences_in (each_pattern_value (map pattern_of xs) env))
 each_has_uses xs known final env d short h =
     carried known final _ _ _ _ (sym (flat_map-map (λ (a : Shown). a.uses known final) shown xs)) refl (argument_uses xs (each_args HasUses var_uses op_uses meta_uses xs) known final env d short h)
 
@@ -312,7 +312,7 @@ not_not : (b : Bool) → not b ≡ false → b ≡ true
 not_not true e = refl
 not_not false e = absurd cc
 
-listed_parts : (known earlier : List Sym) (cs : List RawName) → list_faults known earlier cs ≡ [] → (has_all known (names_in cs) ≡ true) × (all_new earlier (names_in cs) ≡ true)
+listed_parts : (known earlier : List Sym) (cs : List RawName) → list_faults known earlier cs ≡ [] → (has_all known (syms_of cs) ≡ true) × (all_new earlier (syms_of cs) ≡ true)
 listed_parts known earlier [] h = (refl, refl)
 listed_parts known earlier (c ∷ cs) h =
     let one = fault_if (not (has known c.name)) c.left why.DanglingContext in
@@ -331,7 +331,7 @@ all_listed_from known final [] [] h f = refl
 all_listed_from known final [] (o ∷ os) h f = absurd h
 all_listed_from known final (u ∷ us) [] h f = absurd h
 all_listed_from known final (u ∷ us) (o ∷ os) h f =
-    let ctxs : names_in u.ctxs ≡ o.ctxs = ap (λ (g : First). g.ctxs) h.0.same in
+    let ctxs : syms_of u.ctxs ≡ o.ctxs = ap (λ (g : First). g.ctxs) h.0.same in
     and_from _ _ ((λ i. has_all (sym h.0.behind i) (sym ctxs i)) ∙ (listed_parts u.known [] u.ctxs f.0.listed).0) (all_listed_from known final us os h.1 f.1)
 
 pub all_apart_from : (known : List Sym) (final : Bool) (us : List Use) (os : List Occurrence) → AllAgree known final us os → AreFine us → list_all (λ (o : Occurrence). is_apart o.ctxs) os ≡ true
@@ -339,8 +339,8 @@ all_apart_from known final [] [] h f = refl
 all_apart_from known final [] (o ∷ os) h f = absurd h
 all_apart_from known final (u ∷ us) [] h f = absurd h
 all_apart_from known final (u ∷ us) (o ∷ os) h f =
-    let ctxs : names_in u.ctxs ≡ o.ctxs = ap (λ (g : First). g.ctxs) h.0.same in
-    and_from _ _ (ap is_apart (sym ctxs) ∙ new_apart [] (names_in u.ctxs) (listed_parts u.known [] u.ctxs f.0.listed).1) (all_apart_from known final us os h.1 f.1)
+    let ctxs : syms_of u.ctxs ≡ o.ctxs = ap (λ (g : First). g.ctxs) h.0.same in
+    and_from _ _ (ap is_apart (sym ctxs) ∙ new_apart [] (syms_of u.ctxs) (listed_parts u.known [] u.ctxs f.0.listed).1) (all_apart_from known final us os h.1 f.1)
 
 pub all_distinct_from : (known : List Sym) (us : List Use) (os : List Occurrence) → AllAgree known true us os → AreFine us → list_all (λ (o : Occurrence). are_distinct o.levels) os ≡ true
 all_distinct_from known [] [] h f = refl
@@ -349,7 +349,7 @@ all_distinct_from known (u ∷ us) [] h f = absurd h
 all_distinct_from known (u ∷ us) (o ∷ os) h f = and_from _ _ (h.0.apart (f.0.distinct h.0.ends)) (all_distinct_from known us os h.1 f.1)
 
 -- the uses without their places are the occurrences without their levels
-pub same_uses : (known : List Sym) (final : Bool) (us : List Use) (os : List Occurrence) → AllAgree known final us os → map first_of us ≡ map used_of os
+pub same_uses : (known : List Sym) (final : Bool) (us : List Use) (os : List Occurrence) → AllAgree known final us os → map first_use_of us ≡ map used_of os
 same_uses known final [] [] h = refl
 same_uses known final [] (o ∷ os) h = absurd h
 same_uses known final (u ∷ us) [] h = absurd h

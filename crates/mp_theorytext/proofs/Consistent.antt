@@ -7,7 +7,8 @@ use Rattle.std.proofs.lemmas.List.Folds.{list_all-map}
 use Rattle.std.proofs.lemmas.Bool.{and_from}
 use Rattle.std.proofs.lemmas.Bool.Decides.{nat_tests}
 use Rattle.mp_logic.specs.declared.sym.Sym.{Sym}
-use Rattle.mp_schema.specs.Faults.{same_bool, same_names, is_like_first, is_consistent}
+use Rattle.mp_schema.specs.Faults.{same_names, is_like_first, is_consistent}
+use Rattle.mp_logic.specs.Lists.{same_bool}
 use Rattle.mp_schema.specs.Occurrences.{Occurrence, first_named}
 use Rattle.mp_words.specs.declared.fault.Fault.{Fault}
 use Rattle.mp_words.specs.declared.fail.TextWhy.TheVariants as why
@@ -15,7 +16,7 @@ use Rattle.mp_words.specs.Faults.{too_many}
 use Rattle.mp_words.proofs.NoFaults.{nil_parts, no_fault, not_many}
 use Rattle.mp_words.specs.declared.raw.RawName.{RawName}
 use Rattle.mp_theorytext.specs.declared.uses.First.{First}
-use Rattle.mp_theorytext.specs.Uses.{Argument, Use, list_faults, argument_faults, find_first, first_of, firsts_with, is_like, unless_like, use_faults, uses_faults}
+use Rattle.mp_theorytext.specs.Uses.{Argument, Use, list_faults, argument_faults, find_first, first_use_of, firsts_with, is_like, unless_like, use_faults, uses_faults}
 use Rattle.mp_theorytext.proofs.Agreeing.{used_of, IsFine, AreFine}
 
 -- ## The parts of the faults of uses
@@ -101,9 +102,9 @@ not_not : (b : Bool) → not b ≡ false → b ≡ true
 not_not true e = refl
 not_not false e = absurd cc
 
-like_found : (o : Option First) (f : First) (u : Use) → o ≡ Some f → unless_like o u ≡ [] → is_like f (first_of u) ≡ true
+like_found : (o : Option First) (f : First) (u : Use) → o ≡ Some f → unless_like o u ≡ [] → is_like f (first_use_of u) ≡ true
 like_found None f u e h = absurd cc
-like_found (Some g) f u e h = let same : g ≡ f = cc in ap (λ x. is_like x (first_of u)) (sym same) ∙ not_not (is_like g (first_of u)) (no_fault (not (is_like g (first_of u))) u.left why.BadUse h)
+like_found (Some g) f u e h = let same : g ≡ f = cc in ap (λ x. is_like x (first_use_of u)) (sym same) ∙ not_not (is_like g (first_use_of u)) (no_fault (not (is_like g (first_use_of u))) u.left why.BadUse h)
 
 one_first : (f : First) (name : Sym) (b : Bool) → nat_eq f.name.0 name.0 ≡ b → find_first (f ∷ []) name ≡ (if b then Some f else None)
 one_first f name b e = ap (λ c. if c then Some f else None) e
@@ -115,7 +116,7 @@ find_same (f ∷ fs) a b e = (λ i. if nat_eq f.name.0 (e i) then Some f else fi
 -- where the use is the first of its name, it is held from then on
 module _ (firsts before : List First) (u : Use) (same : Same firsts before) where
   abbrev f : First
-  f = first_of u
+  f = first_use_of u
 
   with_first : (o : Option First) → find_first firsts u.name ≡ o → Same (if is_some o then firsts else firsts ++ f ∷ []) (before ++ f ∷ [])
   with_first None e name = find-append firsts (f ∷ []) name ∙ ap (λ o. or_else o (find_first (f ∷ []) name)) (same name) ∙ sym (find-append before (f ∷ []) name)
@@ -136,25 +137,25 @@ module _ (firsts before : List First) (u : Use) (same : Same firsts before) wher
   same_with = with_first (find_first firsts u.name) refl
 
 like_here : (firsts before : List First) (u : Use) (after : List First) → Same firsts before → unless_like (find_first firsts u.name) u ≡ [] → (o : Option First) → find_first firsts u.name ≡ o
-    → like_first (find_first (before ++ first_of u ∷ after) u.name) (first_of u) ≡ true
+    → like_first (find_first (before ++ first_use_of u ∷ after) u.name) (first_use_of u) ≡ true
 like_here firsts before u after same h None e =
     let none : find_first before u.name ≡ None = sym (same u.name) ∙ e in
-    let here : find_first (first_of u ∷ after) u.name ≡ Some (first_of u) = ap (λ b. if b then Some (first_of u) else find_first after u.name) (eq_like u.name.0) in
-    let found = find-append before (first_of u ∷ after) u.name ∙ ap (λ o. or_else o (find_first (first_of u ∷ after) u.name)) none ∙ here in
-    ap (λ o. like_first o (first_of u)) found ∙ like_itself (first_of u)
+    let here : find_first (first_use_of u ∷ after) u.name ≡ Some (first_use_of u) = ap (λ b. if b then Some (first_use_of u) else find_first after u.name) (eq_like u.name.0) in
+    let found = find-append before (first_use_of u ∷ after) u.name ∙ ap (λ o. or_else o (find_first (first_use_of u ∷ after) u.name)) none ∙ here in
+    ap (λ o. like_first o (first_use_of u)) found ∙ like_itself (first_use_of u)
 like_here firsts before u after same h (Some g) e =
     let held : find_first before u.name ≡ Some g = sym (same u.name) ∙ e in
-    let found = find-append before (first_of u ∷ after) u.name ∙ ap (λ o. or_else o (find_first (first_of u ∷ after) u.name)) held in
-    ap (λ o. like_first o (first_of u)) found ∙ like_found (find_first firsts u.name) g u e h
+    let found = find-append before (first_use_of u ∷ after) u.name ∙ ap (λ o. or_else o (find_first (first_use_of u ∷ after) u.name)) held in
+    ap (λ o. like_first o (first_use_of u)) found ∙ like_found (find_first firsts u.name) g u e h
 
 -- each use is like the first one of its name
-uses_like : (firsts before : List First) (us : List Use) → Same firsts before → uses_faults firsts us ≡ [] → all_like (before ++ map first_of us) (map first_of us) ≡ true
+uses_like : (firsts before : List First) (us : List Use) → Same firsts before → uses_faults firsts us ≡ [] → all_like (before ++ map first_use_of us) (map first_use_of us) ≡ true
 uses_like firsts before [] same h = refl
 uses_like firsts before (u ∷ us) same h =
     let both = nil_parts (use_faults firsts u) (uses_faults (firsts_with firsts u) us) h in
-    let rest = uses_like (firsts_with firsts u) (before ++ first_of u ∷ []) us (same_with firsts before u same) both.1 in
-    and_from _ _ (like_here firsts before u (map first_of us) same (like firsts u both.0) (find_first firsts u.name) refl)
-    (ap (λ all. all_like all (map first_of us)) (sym (append_assoc before (first_of u ∷ []) (map first_of us))) ∙ rest)
+    let rest = uses_like (firsts_with firsts u) (before ++ first_use_of u ∷ []) us (same_with firsts before u same) both.1 in
+    and_from _ _ (like_here firsts before u (map first_use_of us) same (like firsts u both.0) (find_first firsts u.name) refl)
+    (ap (λ all. all_like all (map first_use_of us)) (sym (append_assoc before (first_use_of u ∷ []) (map first_use_of us))) ∙ rest)
 
 -- ## Occurrences
 
@@ -175,7 +176,7 @@ all_same p q [] h = refl
 all_same p q (x ∷ xs) h = (λ i. h x i && all_same p q xs h i)
 
 -- occurrences are used as at the first ones of their names, where the uses have no fault
-pub consistent_from : (us : List Use) (os : List Occurrence) → map first_of us ≡ map used_of os → uses_faults [] us ≡ [] → is_consistent os ≡ true
+pub consistent_from : (us : List Use) (os : List Occurrence) → map first_use_of us ≡ map used_of os → uses_faults [] us ≡ [] → is_consistent os ≡ true
 consistent_from us os same h =
     let fs = map used_of os in
     let all : all_like fs fs ≡ true = ap (λ gs. all_like gs gs) (sym same) ∙ uses_like [] [] us (λ name. refl) h in

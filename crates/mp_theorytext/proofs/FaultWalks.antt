@@ -14,7 +14,7 @@ use Rattle.mp_schema.specs.Conditions.{has}
 use Rattle.mp_names.specs.Sets.{is_met, with_met, is_among, Met}
 use Rattle.mp_names.proofs.Meeting.{meeting}
 use Rattle.mp_schematext.specs.declared.raw.RawRule.{RawRule}
-use Rattle.mp_theorytext.specs.Scopes.{names_in, contexts_past, contexts_behind, env_past, env_behind}
+use Rattle.mp_theorytext.specs.Scopes.{syms_of, contexts_past, contexts_behind, env_past, env_behind}
 use Rattle.mp_theorytext.specs.declared.uses.First.{First}
 use Rattle.mp_theorytext.specs.Uses.{Use, list_faults, argument_faults, find_first, unless_like, use_faults, uses_faults, uses_in_item, uses_in_items, uses_in_rule, hole_faults, raw_schema_holes}
 use Rattle.mp_theorytext.specs.Statics.{twice_faults, concl_item_faults, premise_item_faults, item_node_faults, item_faults, items_faults, item_left, node_faults, raw_schema_size_of, schema_faults, premises_faults, contexts_of, rule_faults, rules_faults}
@@ -63,12 +63,12 @@ use_parts held a b c d firsts u e f g h =
 -- the parts of a rule
 pub rule_parts : (r : RawRule) (concl cs ds : List Sym) (premises : List RawSchema) (held a b c d e : Option Fault) → concl ≡ contexts_of r.concl → cs ≡ concl → ds ≡ concl → premises ≡ r.premises
     → a ≡ least_from held (too_many (λ s. s.left) 16 r.premises) → b ≡ least_from a (premises_faults cs premises) → c ≡ least_from b (schema_faults true ds r.concl) → d ≡ least_from c (uses_faults [] (uses_in_rule r))
-    → e ≡ least_from d (hole_faults (names_in (raw_schema_holes r.concl)) (flat_map raw_schema_holes r.premises)) → e ≡ least_from held (rule_faults r)
+    → e ≡ least_from d (hole_faults (syms_of (raw_schema_holes r.concl)) (flat_map raw_schema_holes r.premises)) → e ≡ least_from held (rule_faults r)
 rule_parts r concl cs ds premises held a b c d e all c-is d-is same f g h k l =
     let cs = contexts_of r.concl in
     let g' : b ≡ least_from a (premises_faults cs r.premises) = g ∙ (λ i. least_from a (premises_faults ((c-is ∙ all) i) (same i))) in
     let h' : c ≡ least_from b (schema_faults true cs r.concl) = h ∙ ap (λ ns. least_from b (schema_faults true ns r.concl)) (d-is ∙ all) in
-    two_parts held d e (too_many (λ s. s.left) 16 r.premises ++ premises_faults cs r.premises ++ schema_faults true cs r.concl ++ uses_faults [] (uses_in_rule r)) (hole_faults (names_in (raw_schema_holes r.concl)) (flat_map raw_schema_holes r.premises))
+    two_parts held d e (too_many (λ s. s.left) 16 r.premises ++ premises_faults cs r.premises ++ schema_faults true cs r.concl ++ uses_faults [] (uses_in_rule r)) (hole_faults (syms_of (raw_schema_holes r.concl)) (flat_map raw_schema_holes r.premises))
     (four_parts held a b c d (too_many (λ s. s.left) 16 r.premises) (premises_faults cs r.premises) (schema_faults true cs r.concl) (uses_faults [] (uses_in_rule r)) f g' h' k) l
 
 -- ## Rules

@@ -17,9 +17,9 @@ use Rattle.mp_words.proofs.NoFaults.{nil_parts, no_fault, not_many}
 use Rattle.mp_words.specs.declared.raw.RawName.{RawName}
 use Rattle.mp_schematext.specs.declared.raw.RawSchema.{RawSchema}
 use Rattle.mp_schematext.specs.declared.raw.RawRule.{RawRule}
-use Rattle.mp_theorytext.specs.Scopes.{names_in}
+use Rattle.mp_theorytext.specs.Scopes.{syms_of}
 use Rattle.mp_theorytext.specs.Values.{schema_of}
-use Rattle.mp_theorytext.specs.Uses.{first_of, uses_in_schema, uses_in_rule, uses_faults, hole_faults, raw_schema_holes}
+use Rattle.mp_theorytext.specs.Uses.{first_use_of, uses_in_schema, uses_in_rule, uses_faults, hole_faults, raw_schema_holes}
 use Rattle.mp_theorytext.specs.Statics.{contexts_of, schema_faults, premises_faults, rule_faults}
 use Rattle.mp_theorytext.proofs.Agreeing.{AreFine, fine-parts, used_of}
 use Rattle.mp_theorytext.proofs.Consistent.{all_fine, consistent_from}
@@ -50,17 +50,17 @@ contexts_known concl (s ∷ ss) h =
     let both = nil_parts (schema_faults false concl s) (premises_faults concl ss) h in
     and_from _ _ (premise_contexts concl [] [] s.items (items_faultless false concl s both.0)) (contexts_known concl ss both.1)
 
-premise_uses : (ss : List RawSchema) → AllKeep ss → map first_of (flat_map (uses_in_schema false) ss) ≡ map used_of (flat_map occurrences_in_schema (map schema_of ss))
+premise_uses : (ss : List RawSchema) → AllKeep ss → map first_use_of (flat_map (uses_in_schema false) ss) ≡ map used_of (flat_map occurrences_in_schema (map schema_of ss))
 premise_uses [] k = refl
 premise_uses (s ∷ ss) k =
-    map_append first_of (uses_in_schema false s) (flat_map (uses_in_schema false) ss) ∙ (λ i. k.0.uses i ++ premise_uses ss k.1 i)
+    map_append first_use_of (uses_in_schema false s) (flat_map (uses_in_schema false) ss) ∙ (λ i. k.0.uses i ++ premise_uses ss k.1 i)
     ∙ sym (map_append used_of (occurrences_in_schema (schema_of s)) (flat_map occurrences_in_schema (map schema_of ss)))
 
 not_not : (b : Bool) → not b ≡ false → b ≡ true
 not_not true e = refl
 not_not false e = absurd cc
 
-holes_known : (known : List Sym) (hs : List RawName) → hole_faults known hs ≡ [] → has_all known (names_in hs) ≡ true
+holes_known : (known : List Sym) (hs : List RawName) → hole_faults known hs ≡ [] → has_all known (syms_of hs) ≡ true
 holes_known known [] e = refl
 holes_known known (h ∷ hs) e =
     let both = nil_parts (fault_if (not (has known h.name)) h.left why.UnboundParam) (hole_faults known hs) e in
@@ -89,7 +89,7 @@ module _ (r : RawRule) (h : rule_faults r ≡ []) where
   count = too_many (λ (s : RawSchema). s.left) 16 r.premises
 
   abbrev holes : List Fault
-  holes = hole_faults (names_in (raw_schema_holes r.concl)) (flat_map raw_schema_holes r.premises)
+  holes = hole_faults (syms_of (raw_schema_holes r.concl)) (flat_map raw_schema_holes r.premises)
 
   last : (count ++ premises_faults concl r.premises ++ schema_faults true concl r.concl ++ uses_faults [] (uses_in_rule r) ≡ []) × (holes ≡ [])
   last = nil_parts (count ++ premises_faults concl r.premises ++ schema_faults true concl r.concl ++ uses_faults [] (uses_in_rule r)) holes h
@@ -161,13 +161,13 @@ module _ (r : RawRule) (h : rule_faults r ≡ []) where
   unfolding rule_is_consistent
   consistent =
       consistent_from (uses_in_rule r) (occurrences_of_rule premises end)
-      (map_append first_of (flat_map (uses_in_schema false) r.premises) (uses_in_schema true r.concl) ∙ (λ i. premise_uses r.premises kept i ++ ends.uses i)
+      (map_append first_use_of (flat_map (uses_in_schema false) r.premises) (uses_in_schema true r.concl) ∙ (λ i. premise_uses r.premises kept i ++ ends.uses i)
       ∙ sym (map_append used_of (flat_map occurrences_in_schema premises) (occurrences_in_schema end))) third.1
 
   filled : rule_is_filled premises end ≡ true
   unfolding rule_is_filled
   filled =
-      (λ i. has_all (schema_holes r.concl i) (schemata_holes r.premises i)) ∙ holes_known (names_in (raw_schema_holes r.concl)) (flat_map raw_schema_holes r.premises) last.1
+      (λ i. has_all (schema_holes r.concl i) (schemata_holes r.premises i)) ∙ holes_known (syms_of (raw_schema_holes r.concl)) (flat_map raw_schema_holes r.premises) last.1
 
   pub faultless : rule_fault_of premises end ≡ None
   faultless = rw (few, shallow, small, closed, listed, single, two, between, distinct, consistent, filled) refl

@@ -7,7 +7,8 @@ use Rattle.std.proofs.lemmas.Bool.Decides.{nat_tests}
 use Rattle.std.proofs.lemmas.List.{length-map}
 use Rattle.std.proofs.lemmas.List.Folds.{list_all-append}
 use Rattle.mp_logic.specs.declared.sym.Sym.{Sym}
-use Rattle.mp_term.specs.Terms.{greatest, at_scope}
+use Rattle.mp_term.specs.Terms.{all_at_scope}
+use Rattle.mp_logic.specs.Lists.{greatest}
 use Rattle.mp_schema.specs.declared.pattern.Pattern.{Pattern}
 use Rattle.mp_schema.specs.declared.pattern.Pattern as pat
 use Rattle.mp_schema.specs.declared.pattern.PBound.{PBound}
@@ -25,8 +26,8 @@ use Rattle.mp_schematext.specs.declared.raw.RawParamPat.{RawParamPat}
 use Rattle.mp_schematext.specs.declared.raw.RawPatternBound.{RawPatternBound}
 use Rattle.mp_schematext.specs.declared.raw.RawPattern.{RawPattern}
 use Rattle.mp_schematext.specs.declared.raw.RawPattern as raw
-use Rattle.mp_theorytext.specs.Scopes.{level_in, names_in}
-use Rattle.mp_theorytext.specs.Values.{Valued, in_32_bits, each_value, pattern_of, bound_of}
+use Rattle.mp_theorytext.specs.Scopes.{level_in, syms_of}
+use Rattle.mp_theorytext.specs.Values.{Valued, in_32_bits, each_pattern_value, pattern_of, bound_of}
 use Rattle.mp_theorytext.specs.Uses.{Use, Shown, shown, argument_of, uses_in, uses_in_bound}
 use Rattle.mp_theorytext.specs.Statics.{node_faults, bound_node_faults}
 use Rattle.mp_schematext.proofs.RawInduction.{OfEachBody, OfEachArg, each_raw, each_args}
@@ -85,7 +86,7 @@ var_range n l env d h =
 -- each body
 pub record FitBodies (bs : List PBound) (d n : ℕ) : Type 0 where
   pub depth : greatest (map pattern_depth_of_bound bs) + d ≤ 201
-  pub range : at_scope n (map below_bound bs) ≡ true
+  pub range : all_at_scope n (map below_bound bs) ≡ true
 
 few_binders : (env : List Sym) (bs : List RawName) → length bs ≤ 8 → length env + in_32_bits (length bs) ≡ length (env ++ names_of bs)
 few_binders env bs h =
@@ -110,7 +111,7 @@ module _ (k : RawPatternBound) (env : List Sym) (d : ℕ) (h : bound_node_faults
   body_range : below_bound (bound_of k env) (length env) ≡ below (pattern_of k.body inner) (length inner)
   body_range = ap (λ b. below_bound b (length env)) (bound_of-is k env) ∙ below_bound-is _ (length env) ∙ ap (below (pattern_of k.body inner)) (few_binders env k.binders binders_few)
 
-bodies_range : (ks : List RawPatternBound) → OfEachBody HasRange ks → (env : List Sym) (d : ℕ) → d ≤ 201 → each_faults (map bound_node_faults ks) env d ≡ [] → FitBodies (each_value (map bound_of ks) env) d (length env)
+bodies_range : (ks : List RawPatternBound) → OfEachBody HasRange ks → (env : List Sym) (d : ℕ) → d ≤ 201 → each_faults (map bound_node_faults ks) env d ≡ [] → FitBodies (each_pattern_value (map bound_of ks) env) d (length env)
 bodies_range [] ih env d few h = record { depth = omega (arith, few); range = refl }
 bodies_range (k ∷ ks) ih env d few h =
     let both = nil_parts (bound_node_faults k env d) (each_faults (map bound_node_faults ks) env d) h in
@@ -123,9 +124,9 @@ bodies_range (k ∷ ks) ih env d few h =
 -- each argument
 pub record FitArgs (ps : List Pattern) (d n : ℕ) : Type 0 where
   pub depth : greatest (map pattern_depth_of ps) + d ≤ 201
-  pub range : at_scope n (map below ps) ≡ true
+  pub range : all_at_scope n (map below ps) ≡ true
 
-args_range : (xs : List RawPattern) → OfEachArg HasRange xs → (env : List Sym) (d : ℕ) → d ≤ 201 → each_faults (map node_faults xs) env d ≡ [] → FitArgs (each_value (map pattern_of xs) env) d (length env)
+args_range : (xs : List RawPattern) → OfEachArg HasRange xs → (env : List Sym) (d : ℕ) → d ≤ 201 → each_faults (map node_faults xs) env d ≡ [] → FitArgs (each_pattern_value (map pattern_of xs) env) d (length env)
 args_range [] ih env d few h = record { depth = omega (arith, few); range = refl }
 args_range (x ∷ xs) ih env d few h =
     let both = nil_parts (node_faults x env d) (each_faults (map node_faults xs) env d) h in
@@ -168,7 +169,7 @@ op_range : (n : Sym) (ps : List RawParamPat) (ks : List RawPatternBound) (l : �
 op_range n ps ks l ih env d h =
     let shallow = op_shallow n ps ks l env d h in
     let all = bodies_range ks ih env (d + 1) (omega (arith, shallow)) (op_bodies n ps ks l env d h) in
-    let subs = each_value (map bound_of ks) env in
+    let subs = each_pattern_value (map bound_of ks) env in
     let deepest = all.depth in
     let one = pattern_depth_of-Op n (map (λ p. p.value) ps) subs in
     carried (pattern_of (raw.Op n ps ks l) env) (pat.Op n (map (λ p. p.value) ps) subs) d (length env) (pattern_of-Op n ps ks l env) (omega (arith, one, deepest)) (below-Op n _ subs (length env) ∙ all.range)
@@ -177,16 +178,16 @@ meta_range : (n : Sym) (cs : List RawName) (xs : List RawPattern) (l : ℕ) → 
 meta_range n cs xs l ih env d h =
     let shallow = meta_shallow n cs xs l env d h in
     let all = args_range xs ih env (d + 1) (omega (arith, shallow)) (meta_args n cs xs l env d h) in
-    let args = each_value (map pattern_of xs) env in
+    let args = each_pattern_value (map pattern_of xs) env in
     let deepest = all.depth in
-    let one = pattern_depth_of-Meta n (names_in cs) args in
-    carried (pattern_of (raw.Meta n cs xs l) env) (pat.Meta n (names_in cs) args) d (length env) (pattern_of-Meta n cs xs l env) (omega (arith, one, deepest)) (below-Meta n _ args (length env) ∙ all.range)
+    let one = pattern_depth_of-Meta n (syms_of cs) args in
+    carried (pattern_of (raw.Meta n cs xs l) env) (pat.Meta n (syms_of cs) args) d (length env) (pattern_of-Meta n cs xs l env) (omega (arith, one, deepest)) (below-Meta n _ args (length env) ∙ all.range)
 
 -- what is written and has no fault isn't too deep, and its variables are in range
 pub in_range : (p : RawPattern) → HasRange p
 in_range = each_raw HasRange var_range op_range meta_range
 
-pub each_in_range : (xs : List RawPattern) (env : List Sym) (d : ℕ) → d ≤ 201 → each_faults (map node_faults xs) env d ≡ [] → FitArgs (each_value (map pattern_of xs) env) d (length env)
+pub each_in_range : (xs : List RawPattern) (env : List Sym) (d : ℕ) → d ≤ 201 → each_faults (map node_faults xs) env d ≡ [] → FitArgs (each_pattern_value (map pattern_of xs) env) d (length env)
 each_in_range xs env d few h = args_range xs (each_args HasRange var_range op_range meta_range xs) env d few h
 
 -- ## How many
@@ -198,12 +199,12 @@ few_use u = nat_le (length u.ctxs) 8 && nat_le (length u.args) 8
 abbrev HasFew : RawPattern → Type 0
 HasFew p = (env : List Sym) (d : ℕ) (known : List Sym) (final : Bool) → node_faults p env d ≡ [] → list_all few_use (uses_in p known final) ≡ true → few_of (pattern_of p env) ≡ true
 
-pub length-each : {X : Type 0} (fs : List (Valued X)) (env : List Sym) → length (each_value fs env) ≡ length fs
+pub length-each : {X : Type 0} (fs : List (Valued X)) (env : List Sym) → length (each_pattern_value fs env) ≡ length fs
 length-each [] env = refl
 length-each (f ∷ fs) env = let e = length-each fs env in omega (arith, e)
 
 bodies_few : (ks : List RawPatternBound) → OfEachBody HasFew ks → (env : List Sym) (d : ℕ) (known : List Sym) (final : Bool) → each_faults (map bound_node_faults ks) env d ≡ []
-    → list_all few_use (flat_map (λ us. us known final) (map uses_in_bound ks)) ≡ true → all_pass (map few_of_bound (each_value (map bound_of ks) env)) ≡ true
+    → list_all few_use (flat_map (λ us. us known final) (map uses_in_bound ks)) ≡ true → all_pass (map few_of_bound (each_pattern_value (map bound_of ks) env)) ≡ true
 bodies_few [] ih env d known final h u = refl
 bodies_few (k ∷ ks) ih env d known final h u =
     let both = nil_parts (bound_node_faults k env d) (each_faults (map bound_node_faults ks) env d) h in
@@ -214,7 +215,7 @@ bodies_few (k ∷ ks) ih env d known final h u =
     and_from _ _ (ap few_of_bound (bound_of-is k env) ∙ few_of_bound-is _ ∙ and_from _ _ binders here) (bodies_few ks ih.1 env d known final both.1 uses.1)
 
 args_few : (xs : List RawPattern) → OfEachArg HasFew xs → (env : List Sym) (d : ℕ) (known : List Sym) (final : Bool) → each_faults (map node_faults xs) env d ≡ []
-    → list_all few_use (flat_map (λ (a : Shown). a.uses known final) (map shown xs)) ≡ true → all_pass (map few_of (each_value (map pattern_of xs) env)) ≡ true
+    → list_all few_use (flat_map (λ (a : Shown). a.uses known final) (map shown xs)) ≡ true → all_pass (map few_of (each_pattern_value (map pattern_of xs) env)) ≡ true
 args_few [] ih env d known final h u = refl
 args_few (x ∷ xs) ih env d known final h u =
     let both = nil_parts (node_faults x env d) (each_faults (map node_faults xs) env d) h in
@@ -233,13 +234,13 @@ op_has_few n ps ks l ih env d known final h u =
 
 -- the counts of a use, as those of what stands for it
 pub counts_few : (cs : List RawName) (xs : List RawPattern) (env : List Sym) → (nat_le (length cs) 8 && nat_le (length (map argument_of xs)) 8) ≡ true
-    → (nat_le (length (names_in cs)) 8 && nat_le (length (each_value (map pattern_of xs) env)) 8) ≡ true
+    → (nat_le (length (syms_of cs)) 8 && nat_le (length (each_pattern_value (map pattern_of xs) env)) 8) ≡ true
 counts_few cs xs env h =
     let ctxs = length-map cs (λ c. c.name) in
     let args = length-map xs argument_of in
     let values = length-each (map pattern_of xs) env in
     let patterns = length-map xs pattern_of in
-    let same : length (map argument_of xs) ≡ length (each_value (map pattern_of xs) env) = omega (arith, args, values, patterns) in
+    let same : length (map argument_of xs) ≡ length (each_pattern_value (map pattern_of xs) env) = omega (arith, args, values, patterns) in
     (λ i. nat_le (ctxs i) 8 && nat_le (sym same i) 8) ∙ h
 
 meta_has_few : (n : Sym) (cs : List RawName) (xs : List RawPattern) (l : ℕ) → OfEachArg HasFew xs → HasFew (raw.Meta n cs xs l)
@@ -252,5 +253,5 @@ pub has_few : (p : RawPattern) → HasFew p
 has_few = each_raw HasFew var_few op_has_few meta_has_few
 
 pub each_has_few : (xs : List RawPattern) (env : List Sym) (d : ℕ) (known : List Sym) (final : Bool) → each_faults (map node_faults xs) env d ≡ []
-    → list_all few_use (flat_map (λ (a : Shown). a.uses known final) (map shown xs)) ≡ true → all_pass (map few_of (each_value (map pattern_of xs) env)) ≡ true
+    → list_all few_use (flat_map (λ (a : Shown). a.uses known final) (map shown xs)) ≡ true → all_pass (map few_of (each_pattern_value (map pattern_of xs) env)) ≡ true
 each_has_few xs = args_few xs (each_args HasFew var_few op_has_few meta_has_few xs)

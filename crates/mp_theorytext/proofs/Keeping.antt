@@ -6,7 +6,7 @@ use Rattle.std.proofs.lemmas.Bool.{and_parts, and_from}
 use Rattle.std.proofs.lemmas.Bool.Decides.{nat_tests}
 use Rattle.std.proofs.lemmas.List.Folds.{list_all-append, flat_map-map}
 use Rattle.mp_logic.specs.declared.sym.Sym.{Sym}
-use Rattle.mp_term.specs.Terms.{at_scope}
+use Rattle.mp_term.specs.Terms.{all_at_scope}
 use Rattle.mp_schema.specs.Conditions.{Before, nothing_before, past, past_all, each_item, has, has_all, is_apart, context_names, has_two_contexts, item_between, is_framed, below}
 use Rattle.mp_schema.specs.Conditions as conditions
 use Rattle.mp_schema.specs.Limits.{few_of_item, few_of_schema, is_shallow_item, is_shallow_schema, is_small_schema}
@@ -21,8 +21,8 @@ use Rattle.mp_schematext.specs.declared.raw.RawItem.{RawItem}
 use Rattle.mp_schematext.specs.declared.raw.RawItem.TheVariants as item
 use Rattle.mp_schematext.specs.declared.raw.RawSchema.{RawSchema}
 use Rattle.mp_theorytext.specs.Scopes.{env_past, env_behind, contexts_past, contexts_behind}
-use Rattle.mp_theorytext.specs.Values.{each_value, pattern_of, item_of, items_of, schema_of}
-use Rattle.mp_theorytext.specs.Uses.{Use, Shown, shown, uses_in, uses_in_item, uses_in_items, uses_in_schema, first_of}
+use Rattle.mp_theorytext.specs.Values.{each_pattern_value, pattern_of, item_of, items_of, schema_of}
+use Rattle.mp_theorytext.specs.Uses.{Use, Shown, shown, uses_in, uses_in_item, uses_in_items, uses_in_schema, first_use_of}
 use Rattle.mp_theorytext.specs.Statics.{node_faults, item_node_faults, item_faults, items_faults, item_left, twice_faults, concl_item_faults, premise_item_faults, raw_schema_size_of, schema_faults, contexts_of}
 use Rattle.mp_theorytext.proofs.InRange.{few_use, counts_few, in_range, each_in_range, has_few, each_has_few}
 use Rattle.mp_theorytext.proofs.Agreeing.{AllAgree, agrees, has_uses, each_has_uses, AreFine, fine-parts, all_new, new_apart, all_listed_from, all_apart_from, all_distinct_from, used_of, same_uses}
@@ -96,7 +96,7 @@ item_keeps known env final b (item.Ctx n cs xs l) s short h f =
     let counts = and_parts _ _ (all_few uses f) in
     let long : length env ≤ 208 = omega (arith, short) in
     record {
-      closed = ap (λ m. at_scope m (map below (each_value (map pattern_of xs) env))) (sym s.named) ∙ fits.range;
+      closed = ap (λ m. all_at_scope m (map below (each_pattern_value (map pattern_of xs) env))) (sym s.named) ∙ fits.range;
       shallow = le_200 _ (omega (arith, depth));
       few = and_from _ _ (counts_few cs xs env counts.0) (each_has_few xs env 2 known final h (ap (list_all few_use) inner ∙ counts.1));
       uses = (agrees true n.name n.left cs xs known final env 2 (omega (arith, short)) h, each_has_uses xs known final env 2 long h);
@@ -120,7 +120,7 @@ record ItemsKeep (known env : List Sym) (final : Bool) (b : Before) (is : List R
   listed : each_item item_listed (items_of is env) b ≡ true
   apart : lists_apart (flat_map occurrences_in_item (items_of is env)) ≡ true
   distinct : final ≡ true → on_variables (flat_map occurrences_in_item (items_of is env)) ≡ true
-  uses : map first_of (uses_in_items is known final) ≡ map used_of (flat_map occurrences_in_item (items_of is env))
+  uses : map first_use_of (uses_in_items is known final) ≡ map used_of (flat_map occurrences_in_item (items_of is env))
 
 pub map_append : {X Y : Type 0} (f : X → Y) (xs ys : List X) → map f (xs ++ ys) ≡ map f xs ++ map f ys
 map_append f [] ys = refl
@@ -156,7 +156,7 @@ items_keep known env final concl b (i ∷ is) s short h f =
       listed = and_from _ _ (sym (all_listed_same known b.contexts s.same os) ∙ listed) rest.listed;
       apart = list_all-append (λ (o : Occurrence). is_apart o.ctxs) os ps ∙ and_from _ _ apart rest.apart;
       distinct = λ e. list_all-append (λ (o : Occurrence). are_distinct o.levels) os ps ∙ and_from _ _ (distinct_here known final (uses_in_item i known final) os here.uses fine.0 e) (rest.distinct e);
-      uses = map_append first_of (uses_in_item i known final) (uses_in_items is (contexts_past i known) final)
+      uses = map_append first_use_of (uses_in_item i known final) (uses_in_items is (contexts_past i known) final)
           ∙ (λ k. same_uses known final (uses_in_item i known final) os here.uses k ++ rest.uses k) ∙ sym (map_append used_of os ps);
     }
 
@@ -250,7 +250,7 @@ pub record SchemaKeeps (final : Bool) (s : RawSchema) : Type 0 where
   pub listed : is_listed (schema_of s) ≡ true
   pub single : is_single (schema_of s) ≡ true
   pub distinct : final ≡ true → on_variables (occurrences_in_schema (schema_of s)) ≡ true
-  pub uses : map first_of (uses_in_schema final s) ≡ map used_of (occurrences_in_schema (schema_of s))
+  pub uses : map first_use_of (uses_in_schema final s) ≡ map used_of (occurrences_in_schema (schema_of s))
 
 module _ (final : Bool) (concl : List Sym) (s : RawSchema) (h : schema_faults final concl s ≡ []) where
   abbrev env : List Sym
@@ -306,5 +306,5 @@ module _ (final : Bool) (concl : List Sym) (s : RawSchema) (h : schema_faults fi
         single = and_from _ _ (new_apart [] (context_names (schema_of s)) (contexts_new final concl [] [] s.items items_faultless))
             (list_all-append (λ (o : Occurrence). is_apart o.ctxs) os ps ∙ and_from _ _ items.apart (all_apart_from known final us ps agree fine.1));
         distinct = λ e. list_all-append (λ (o : Occurrence). are_distinct o.levels) os ps ∙ and_from _ _ (items.distinct e) (distinct_here known final us ps agree fine.1 e);
-        uses = map_append first_of (uses_in_items s.items [] final) us ∙ (λ k. items.uses k ++ same_uses known final us ps agree k) ∙ sym (map_append used_of os ps);
+        uses = map_append first_use_of (uses_in_items s.items [] final) us ∙ (λ k. items.uses k ++ same_uses known final us ps agree k) ∙ sym (map_append used_of os ps);
       }

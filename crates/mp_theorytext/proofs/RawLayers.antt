@@ -10,17 +10,17 @@ use Rattle.mp_schematext.specs.declared.raw.RawParamPat.{RawParamPat}
 use Rattle.mp_schematext.specs.declared.raw.RawPatternBound.{RawPatternBound}
 use Rattle.mp_schematext.specs.declared.raw.RawPattern.{RawPattern, the_lemmas}
 use Rattle.mp_schematext.specs.declared.raw.RawPattern as raw
-use Rattle.mp_theorytext.specs.Scopes.{level_in, names_in}
-use Rattle.mp_theorytext.specs.Values.{in_32_bits, each_value, pattern_of, bound_of}
-use Rattle.mp_theorytext.specs.Statics.{node_faults, bound_node_faults, raw_size_of, raw_bound_size_of}
+use Rattle.mp_theorytext.specs.Scopes.{level_in, syms_of}
+use Rattle.mp_theorytext.specs.Values.{in_32_bits, each_pattern_value, pattern_of, bound_of}
+use Rattle.mp_theorytext.specs.Statics.{node_faults, bound_node_faults, raw_pattern_size_of, raw_bound_size_of}
 
 pub pattern_of-Var : (n : Sym) (l : ℕ) (env : List Sym) → pattern_of (raw.Var n l) env ≡ pat.Var (in_32_bits (unwrap_or (level_in env n) 0))
 pattern_of-Var n l env = search (rules, the_lemmas)
 
-pub pattern_of-Op : (n : Sym) (ps : List RawParamPat) (ks : List RawPatternBound) (l : ℕ) (env : List Sym) → pattern_of (raw.Op n ps ks l) env ≡ pat.Op n (map (λ p. p.value) ps) (each_value (map bound_of ks) env)
+pub pattern_of-Op : (n : Sym) (ps : List RawParamPat) (ks : List RawPatternBound) (l : ℕ) (env : List Sym) → pattern_of (raw.Op n ps ks l) env ≡ pat.Op n (map (λ p. p.value) ps) (each_pattern_value (map bound_of ks) env)
 pattern_of-Op n ps ks l env = search (rules, the_lemmas)
 
-pub pattern_of-Meta : (n : Sym) (cs : List RawName) (xs : List RawPattern) (l : ℕ) (env : List Sym) → pattern_of (raw.Meta n cs xs l) env ≡ pat.Meta n (names_in cs) (each_value (map pattern_of xs) env)
+pub pattern_of-Meta : (n : Sym) (cs : List RawName) (xs : List RawPattern) (l : ℕ) (env : List Sym) → pattern_of (raw.Meta n cs xs l) env ≡ pat.Meta n (syms_of cs) (each_pattern_value (map pattern_of xs) env)
 pattern_of-Meta n cs xs l env = search (rules, the_lemmas)
 
 pub bound_of-is : (b : RawPatternBound) (env : List Sym) → bound_of b env ≡ record { binders = in_32_bits (length b.binders); body = pattern_of b.body (env ++ names_of b.binders) }
@@ -39,14 +39,14 @@ node_faults-Meta n cs xs l env d = search (rules, the_lemmas)
 pub bound_node_faults-is : (b : RawPatternBound) (env : List Sym) (d : ℕ) → bound_node_faults b env d ≡ too_many (λ c. c.left) 8 b.binders ++ node_faults b.body (env ++ names_of b.binders) d
 bound_node_faults-is b env d = search (rules, the_lemmas)
 
-pub raw_size_of-Var : (n : Sym) (l : ℕ) → raw_size_of (raw.Var n l) ≡ 1
+pub raw_size_of-Var : (n : Sym) (l : ℕ) → raw_pattern_size_of (raw.Var n l) ≡ 1
 raw_size_of-Var n l = search (rules, the_lemmas)
 
-pub raw_size_of-Op : (n : Sym) (ps : List RawParamPat) (ks : List RawPatternBound) (l : ℕ) → raw_size_of (raw.Op n ps ks l) ≡ 1 + sum (map raw_bound_size_of ks)
+pub raw_size_of-Op : (n : Sym) (ps : List RawParamPat) (ks : List RawPatternBound) (l : ℕ) → raw_pattern_size_of (raw.Op n ps ks l) ≡ 1 + sum (map raw_bound_size_of ks)
 raw_size_of-Op n ps ks l = search (rules, the_lemmas)
 
-pub raw_size_of-Meta : (n : Sym) (cs : List RawName) (xs : List RawPattern) (l : ℕ) → raw_size_of (raw.Meta n cs xs l) ≡ 1 + sum (map raw_size_of xs)
+pub raw_size_of-Meta : (n : Sym) (cs : List RawName) (xs : List RawPattern) (l : ℕ) → raw_pattern_size_of (raw.Meta n cs xs l) ≡ 1 + sum (map raw_pattern_size_of xs)
 raw_size_of-Meta n cs xs l = search (rules, the_lemmas)
 
-pub raw_bound_size_of-is : (b : RawPatternBound) → raw_bound_size_of b ≡ raw_size_of b.body
+pub raw_bound_size_of-is : (b : RawPatternBound) → raw_bound_size_of b ≡ raw_pattern_size_of b.body
 raw_bound_size_of-is b = search (rules, the_lemmas)

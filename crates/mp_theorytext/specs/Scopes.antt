@@ -11,8 +11,8 @@ abbrev pub level_in : List Sym → Sym → Option ℕ
 level_in env name = level_of 0 env name None
 
 -- the names without their places
-abbrev pub names_in : List RawName → List Sym
-names_in ns = map (λ n. n.name) ns
+abbrev pub syms_of : List RawName → List Sym
+syms_of ns = map (λ n. n.name) ns
 
 -- the bound names after an item
 abbrev pub env_past : RawItem → List Sym → List Sym

@@ -15,7 +15,7 @@ use Rattle.mp_schematext.specs.declared.raw.RawItem.{RawItem}
 use Rattle.mp_schematext.specs.declared.raw.RawItem.TheVariants as item
 use Rattle.mp_schematext.specs.declared.raw.RawSchema.{RawSchema}
 use Rattle.mp_schematext.specs.declared.raw.RawRule.{RawRule}
-use Rattle.mp_theorytext.specs.Scopes.{level_in, names_in, env_past, env_behind, contexts_past, contexts_behind}
+use Rattle.mp_theorytext.specs.Scopes.{level_in, syms_of, env_past, env_behind, contexts_past, contexts_behind}
 use Rattle.mp_theorytext.specs.Uses.{raw_schema_holes, hole_faults, uses_in_rule, uses_faults}
 
 -- ## Nodes
@@ -47,31 +47,31 @@ item_node_faults (item.Hyp name pattern left) env = node_faults pattern env 1
 -- ## Sizes
 
 -- the size of one node, where those of the patterns in it are known
-abbrev pub raw_size_step : RawPattern-F ℕ ℕ → ℕ
-raw_size_step (layer.Var name left) = 1
-raw_size_step (layer.Op name params subs left) = 1 + sum subs
-raw_size_step (layer.Meta name ctxs args left) = 1 + sum args
+abbrev pub raw_pattern_size_step : RawPattern-F ℕ ℕ → ℕ
+raw_pattern_size_step (layer.Var name left) = 1
+raw_pattern_size_step (layer.Op name params subs left) = 1 + sum subs
+raw_pattern_size_step (layer.Meta name ctxs args left) = 1 + sum args
 
 -- the size of one subterm is that of its body
-abbrev pub raw_size_bound_step : RawPatternBound-F ℕ ℕ → ℕ
-raw_size_bound_step b = b.body
+abbrev pub raw_pattern_size_bound_step : RawPatternBound-F ℕ ℕ → ℕ
+raw_pattern_size_bound_step b = b.body
 
 -- the number of variables, operators and second-order variables
-abbrev pub raw_size_of : RawPattern → ℕ
-raw_size_of = fold-RawPattern ℕ ℕ raw_size_step raw_size_bound_step
+abbrev pub raw_pattern_size_of : RawPattern → ℕ
+raw_pattern_size_of = fold-RawPattern ℕ ℕ raw_pattern_size_step raw_pattern_size_bound_step
 
 -- the size of a subterm is that of its body
 abbrev pub raw_bound_size_of : RawPatternBound → ℕ
-raw_bound_size_of = fold-RawPatternBound ℕ ℕ raw_size_step raw_size_bound_step
+raw_bound_size_of = fold-RawPatternBound ℕ ℕ raw_pattern_size_step raw_pattern_size_bound_step
 
 -- a context isn't counted, and its arguments are
 abbrev pub raw_item_size_of : RawItem → ℕ
-raw_item_size_of (item.Ctx name ctxs args left) = sum (map raw_size_of args)
-raw_item_size_of (item.Hyp name pattern left) = raw_size_of pattern
+raw_item_size_of (item.Ctx name ctxs args left) = sum (map raw_pattern_size_of args)
+raw_item_size_of (item.Hyp name pattern left) = raw_pattern_size_of pattern
 
 -- the sizes of the items and of the conclusion, together
 abbrev pub raw_schema_size_of : RawSchema → ℕ
-raw_schema_size_of s = sum (map raw_item_size_of s.items) + raw_size_of s.concl
+raw_schema_size_of s = sum (map raw_item_size_of s.items) + raw_pattern_size_of s.concl
 
 -- ## Items
 
@@ -126,7 +126,7 @@ premises_faults concl ss = flat_map (schema_faults false concl) ss
 abbrev pub rule_faults : RawRule → List Fault
 rule_faults r =
     too_many (λ s. s.left) 16 r.premises ++ premises_faults (contexts_of r.concl) r.premises ++ schema_faults true (contexts_of r.concl) r.concl
-    ++ uses_faults [] (uses_in_rule r) ++ hole_faults (names_in (raw_schema_holes r.concl)) (flat_map raw_schema_holes r.premises)
+    ++ uses_faults [] (uses_in_rule r) ++ hole_faults (syms_of (raw_schema_holes r.concl)) (flat_map raw_schema_holes r.premises)
 
 -- the faults of rules after rules of these names
 abbrev pub rules_faults : List Sym → List RawRule → List Fault

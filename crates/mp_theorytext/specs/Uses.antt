@@ -5,7 +5,8 @@ use Rattle.mp_logic.specs.declared.sym.Sym.{Sym}
 use Rattle.mp_schema.specs.declared.pattern.ParamPat.{ParamPat}
 use Rattle.mp_schema.specs.declared.pattern.ParamPat.TheVariants.{Lit, Hole}
 use Rattle.mp_schema.specs.Conditions.{has}
-use Rattle.mp_schema.specs.Faults.{same_bool, same_names}
+use Rattle.mp_schema.specs.Faults.{same_names}
+use Rattle.mp_logic.specs.Lists.{same_bool}
 use Rattle.mp_words.specs.declared.fail.TextWhy.TheVariants as why
 use Rattle.mp_words.specs.declared.fault.Fault.{Fault}
 use Rattle.mp_words.specs.Faults.{fault, fault_if, too_many}
@@ -20,7 +21,7 @@ use Rattle.mp_schematext.specs.declared.raw.RawItem.TheVariants as item
 use Rattle.mp_schematext.specs.declared.raw.RawSchema.{RawSchema}
 use Rattle.mp_schematext.specs.declared.raw.RawRule.{RawRule}
 use Rattle.mp_theorytext.specs.declared.uses.First.{First}
-use Rattle.mp_theorytext.specs.Scopes.{names_in, contexts_past, contexts_behind}
+use Rattle.mp_theorytext.specs.Scopes.{syms_of, contexts_past, contexts_behind}
 
 -- ## Uses
 
@@ -144,8 +145,8 @@ argument_faults earlier [] = []
 argument_faults earlier (a ∷ rest) = unless_new earlier a.left a.variable ++ argument_faults (earlier ++ variable_name a) rest
 
 -- the first use of a name in a rule, without its place
-abbrev pub first_of : Use → First
-first_of u = record { is_context = u.is_context; name = u.name; ctxs = names_in u.ctxs; arity = length u.args }
+abbrev pub first_use_of : Use → First
+first_use_of u = record { is_context = u.is_context; name = u.name; ctxs = syms_of u.ctxs; arity = length u.args }
 
 -- the first use of this name
 abbrev pub find_first : List First → Sym → Option First
@@ -159,7 +160,7 @@ is_like f g = same_bool f.is_context g.is_context && same_names f.ctxs g.ctxs &&
 -- BadUse, unless the use is like the first one of its name, or there is no earlier one
 abbrev pub unless_like : Option First → Use → List Fault
 unless_like None u = []
-unless_like (Some f) u = fault_if (not (is_like f (first_of u))) u.left why.BadUse
+unless_like (Some f) u = fault_if (not (is_like f (first_use_of u))) u.left why.BadUse
 
 -- the faults of a use after these first uses of names; in the conclusion of a rule it is applied to distinct variables
 abbrev pub use_faults : List First → Use → List Fault
@@ -169,7 +170,7 @@ use_faults firsts u =
 
 -- the first uses of names after a use
 abbrev pub firsts_with : List First → Use → List First
-firsts_with firsts u = if is_some (find_first firsts u.name) then firsts else firsts ++ first_of u ∷ []
+firsts_with firsts u = if is_some (find_first firsts u.name) then firsts else firsts ++ first_use_of u ∷ []
 
 -- the faults of uses, each after those before it
 abbrev pub uses_faults : List First → List Use → List Fault

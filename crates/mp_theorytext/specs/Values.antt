@@ -17,7 +17,7 @@ use Rattle.mp_schematext.specs.declared.raw.RawItem.{RawItem}
 use Rattle.mp_schematext.specs.declared.raw.RawItem.TheVariants as item
 use Rattle.mp_schematext.specs.declared.raw.RawSchema.{RawSchema}
 use Rattle.mp_schematext.specs.declared.raw.RawRule.{RawRule}
-use Rattle.mp_theorytext.specs.Scopes.{level_in, names_in, env_past, env_behind}
+use Rattle.mp_theorytext.specs.Scopes.{level_in, syms_of, env_past, env_behind}
 
 -- numbers of 32 bits: a greater one is counted as the greatest, and no rule that keeps the static rules has one
 abbrev pub in_32_bits : ℕ → ℕ
@@ -28,31 +28,31 @@ abbrev pub Valued : Type 0 → Type 0
 Valued X = List Sym → X
 
 -- the value of each of them, where the same names are bound
-abbrev pub each_value : {X : Type 0} → List (Valued X) → Valued (List X)
-each_value [] env = []
-each_value (x ∷ xs) env = x env ∷ each_value xs env
+abbrev pub each_pattern_value : {X : Type 0} → List (Valued X) → Valued (List X)
+each_pattern_value [] env = []
+each_pattern_value (x ∷ xs) env = x env ∷ each_pattern_value xs env
 
 -- the pattern of one node, where those of the patterns in it are known
-abbrev pub value_step : RawPattern-F (Valued Pattern) (Valued PBound) → Valued Pattern
-value_step (layer.Var name left) env = Var (in_32_bits (unwrap_or (level_in env name) 0))
-value_step (layer.Op name params subs left) env = Op name (map (λ p. p.value) params) (each_value subs env)
-value_step (layer.Meta name ctxs args left) env = Meta name (names_in ctxs) (each_value args env)
+abbrev pub pattern_value_step : RawPattern-F (Valued Pattern) (Valued PBound) → Valued Pattern
+pattern_value_step (layer.Var name left) env = Var (in_32_bits (unwrap_or (level_in env name) 0))
+pattern_value_step (layer.Op name params subs left) env = Op name (map (λ p. p.value) params) (each_pattern_value subs env)
+pattern_value_step (layer.Meta name ctxs args left) env = Meta name (syms_of ctxs) (each_pattern_value args env)
 
 -- the subterm, where the pattern of its body is known: its binders are bound in it
-abbrev pub value_bound_step : RawPatternBound-F (Valued Pattern) (Valued PBound) → Valued PBound
-value_bound_step b env = record { binders = in_32_bits (length b.binders); body = b.body (env ++ names_of b.binders) }
+abbrev pub pattern_value_bound_step : RawPatternBound-F (Valued Pattern) (Valued PBound) → Valued PBound
+pattern_value_bound_step b env = record { binders = in_32_bits (length b.binders); body = b.body (env ++ names_of b.binders) }
 
 -- the pattern that is written
 abbrev pub pattern_of : RawPattern → Valued Pattern
-pattern_of = fold-RawPattern (Valued Pattern) (Valued PBound) value_step value_bound_step
+pattern_of = fold-RawPattern (Valued Pattern) (Valued PBound) pattern_value_step pattern_value_bound_step
 
 -- the subterm that is written, with the number of its binders
 abbrev pub bound_of : RawPatternBound → Valued PBound
-bound_of = fold-RawPatternBound (Valued Pattern) (Valued PBound) value_step value_bound_step
+bound_of = fold-RawPatternBound (Valued Pattern) (Valued PBound) pattern_value_step pattern_value_bound_step
 
 -- the item that is written
 abbrev pub item_of : RawItem → Valued Item
-item_of (item.Ctx name ctxs args left) env = Ctx name.name (names_in ctxs) (each_value (map pattern_of args) env)
+item_of (item.Ctx name ctxs args left) env = Ctx name.name (syms_of ctxs) (each_pattern_value (map pattern_of args) env)
 item_of (item.Hyp name pattern left) env = Hyp (pattern_of pattern env)
 
 -- the items that are written, each after those before it

@@ -2,7 +2,7 @@ ghost use Rattle.std.specs.Prelude.{◌≡◌, ◌++◌, IfOk, OnOk, map};
 ghost use Rattle.std.specs.List.{flat_map};
 ghost use Rattle.mp_names.specs.Sets.{Met};
 ghost use Rattle.mp_words.specs.Faults.{least_from};
-ghost use Rattle.mp_theorytext.specs.Scopes.{names_in};
+ghost use Rattle.mp_theorytext.specs.Scopes.{syms_of};
 ghost use Rattle.mp_theorytext.specs.Uses.{hole_faults, holes_in_param, raw_holes, raw_bound_holes, raw_item_holes, raw_schema_holes};
 
 use mp_logic::{List, NoMemory};
@@ -95,7 +95,7 @@ fn gather_params(params: &[RawParamPat], holes: &mut List<RawName>) -> Result<()
 
 /// The names of these holes.
 fn names_of(alloc: Global, holes: &[RawName]) -> Result<NameSet, NoMemory>
-    ensures { IfOk result (λ names. Met names (names_in holes.now)) }
+    ensures { IfOk result (λ names. Met names (syms_of holes.now)) }
 {
     let mut names = NameSet::new(alloc);
     for hole in holes {
@@ -111,7 +111,7 @@ pub(crate) fn check_holes(
     known: &[RawName],
     holes: &[RawName],
 ) -> Result<Option<Fault>, NoMemory>
-    ensures { IfOk result (λ found. found ≡ least_from held (hole_faults (names_in known.now) holes.now)) }
+    ensures { IfOk result (λ found. found ≡ least_from held (hole_faults (syms_of known.now) holes.now)) }
 {
     let names = names_of(alloc, known)?;
     let mut held = held;

@@ -1,6 +1,6 @@
 ghost use Rattle.std.specs.Prelude.{◌≡◌};
 ghost use Rattle.mp_schema.specs.Conditions.{has};
-ghost use Rattle.mp_theorytext.specs.Scopes.{names_in};
+ghost use Rattle.mp_theorytext.specs.Scopes.{syms_of};
 
 use mp_logic::Sym;
 use mp_words::RawName;
@@ -17,7 +17,7 @@ pub(crate) fn has_name(names: &[Sym], name: Sym) -> bool
 }
 
 pub(crate) fn has_raw_name(names: &[RawName], name: Sym) -> bool
-    ensures { result ≡ has (names_in names.now) name }
+    ensures { result ≡ has (syms_of names.now) name }
 {
     for other in names {
         if other.name.0 == name.0 {

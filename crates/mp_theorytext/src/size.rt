@@ -1,6 +1,6 @@
 ghost use Rattle.std.specs.Prelude.{◌≡◌, map, sum};
 ghost use Rattle.mp_logic.specs.Trees.{counted};
-ghost use Rattle.mp_theorytext.specs.Statics.{raw_size_of, raw_bound_size_of, raw_item_size_of, raw_schema_size_of};
+ghost use Rattle.mp_theorytext.specs.Statics.{raw_pattern_size_of, raw_bound_size_of, raw_item_size_of, raw_schema_size_of};
 
 use mp_schematext::{RawItem, RawPattern, RawPatternBound, RawSchema};
 
@@ -26,7 +26,7 @@ fn item_size(raw: &RawItem) -> u64
 
 #[cycle(size)]
 fn pattern_size(raw: &RawPattern) -> u64
-    ensures { result ≡ counted (raw_size_of raw.now) }
+    ensures { result ≡ counted (raw_pattern_size_of raw.now) }
 {
     match raw {
         RawPattern::Var { .. } => 1,
@@ -48,7 +48,7 @@ fn bounds_size(subs: &[RawPatternBound]) -> u64
 
 #[cycle(size)]
 fn arguments_size(args: &[RawPattern]) -> u64
-    ensures { result ≡ counted (sum (map raw_size_of args.now)) }
+    ensures { result ≡ counted (sum (map raw_pattern_size_of args.now)) }
 {
     let mut total = 0u64;
     for arg in args {

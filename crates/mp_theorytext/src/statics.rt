@@ -4,7 +4,7 @@ ghost use Rattle.mp_logic.specs.Trees.{counted};
 ghost use Rattle.mp_words.specs.declared.fail.TextWhy.TheVariants as why;
 ghost use Rattle.mp_words.specs.Faults.{fault_if, least, least_from, too_many};
 ghost use Rattle.mp_names.specs.Sets.{is_met, with_met};
-ghost use Rattle.mp_theorytext.specs.Scopes.{contexts_past, contexts_behind, env_past, env_behind, names_in};
+ghost use Rattle.mp_theorytext.specs.Scopes.{contexts_past, contexts_behind, env_past, env_behind, syms_of};
 ghost use Rattle.mp_theorytext.specs.Statics.{concl_item_faults, contexts_of, item_faults, item_left, item_node_faults, items_faults, premise_item_faults, premises_faults, rule_faults, rules_faults, schema_faults, theory_faults, twice_faults};
 ghost use Rattle.mp_theorytext.specs.Uses.{firsts_after, hole_faults, raw_schema_holes, uses_faults, uses_in_item, uses_in_items, uses_in_schema, uses_in_rule};
 
@@ -339,7 +339,7 @@ fn check_rule_holes(
     raw: &RawRule,
     held: Option<Fault>,
 ) -> Result<Option<Fault>, NoMemory>
-    ensures { IfOk result (λ found. found ≡ least_from held (hole_faults (names_in (raw_schema_holes raw.now.concl)) (flat_map raw_schema_holes raw.now.premises))) }
+    ensures { IfOk result (λ found. found ≡ least_from held (hole_faults (syms_of (raw_schema_holes raw.now.concl)) (flat_map raw_schema_holes raw.now.premises))) }
 {
     let mut known = List::new(alloc);
     gather_schema(&raw.concl, &mut known)?;

@@ -5,9 +5,9 @@ ghost use Rattle.mp_schema.specs.Conditions.{has};
 ghost use Rattle.mp_schema.specs.Faults.{same_names};
 ghost use Rattle.mp_words.specs.declared.fail.TextWhy.TheVariants as why;
 ghost use Rattle.mp_words.specs.Faults.{fault_if, least_from, too_many};
-ghost use Rattle.mp_theorytext.specs.Scopes.{names_in};
+ghost use Rattle.mp_theorytext.specs.Scopes.{syms_of};
 ghost use Rattle.mp_theorytext.specs.Places.{use_at};
-ghost use Rattle.mp_theorytext.specs.Uses.{argument_of, argument_faults, variable_name, unless_new, list_faults, find_first, first_of, firsts_after, firsts_with, is_like, unless_like, use_faults, uses_faults, uses_in, uses_in_bound, shown};
+ghost use Rattle.mp_theorytext.specs.Uses.{argument_of, argument_faults, variable_name, unless_new, list_faults, find_first, first_use_of, firsts_after, firsts_with, is_like, unless_like, use_faults, uses_faults, uses_in, uses_in_bound, shown};
 
 use crate::scope::{has_name, has_raw_name};
 use crate::value::copy_names;
@@ -138,7 +138,7 @@ fn check_context(
     earlier: &[RawName],
     ctx: RawName,
 ) -> Option<Fault>
-    ensures { result ≡ least_from held (fault_if (not (has known.now ctx.name)) ctx.left why.DanglingContext ++ fault_if (has (names_in earlier.now) ctx.name) ctx.left why.TwiceContext) }
+    ensures { result ≡ least_from held (fault_if (not (has known.now ctx.name)) ctx.left why.DanglingContext ++ fault_if (has (syms_of earlier.now) ctx.name) ctx.left why.TwiceContext) }
 {
     if behind(held, ctx.left) {
         return held;
@@ -221,7 +221,7 @@ fn check_counts(held: Option<Fault>, ctxs: &[RawName], args: &[RawPattern]) -> O
 }
 
 fn are_same_names(names: &[Sym], raws: &[RawName]) -> bool
-    ensures { result ≡ same_names names.now (names_in raws.now) }
+    ensures { result ≡ same_names names.now (syms_of raws.now) }
 {
     if names.len() != raws.len() {
         return false;

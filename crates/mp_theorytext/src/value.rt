@@ -1,6 +1,6 @@
 ghost use Rattle.std.specs.Prelude.{◌≡◌, ◌++◌, ◌∷◌, [], IfOk, OnOk, map, min, unwrap_or};
-ghost use Rattle.mp_theorytext.specs.Scopes.{level_in, names_in, env_past, env_behind};
-ghost use Rattle.mp_theorytext.specs.Values.{in_32_bits, each_value, pattern_of, bound_of, item_of, items_of, schema_of};
+ghost use Rattle.mp_theorytext.specs.Scopes.{level_in, syms_of, env_past, env_behind};
+ghost use Rattle.mp_theorytext.specs.Values.{in_32_bits, each_pattern_value, pattern_of, bound_of, item_of, items_of, schema_of};
 
 use mp_logic::{List, NoMemory, Sym};
 use mp_schema::{Item, PBound, ParamPat, Pattern, Schema};
@@ -31,7 +31,7 @@ fn build_params(alloc: Global, params: &List<RawParamPat>) -> Result<List<ParamP
 }
 
 pub(crate) fn copy_names(alloc: Global, names: &[RawName]) -> Result<List<Sym>, NoMemory>
-    ensures { IfOk result (λ copied. copied ≡ names_in names.now) }
+    ensures { IfOk result (λ copied. copied ≡ syms_of names.now) }
 {
     let mut copied = List::with_capacity(alloc, names.len() as u64)?;
     for name in names {
@@ -87,7 +87,7 @@ fn build_bounds(
     subs: &[RawPatternBound],
     env: &mut Vec<Sym>,
 ) -> Result<List<PBound>, NoMemory>
-    ensures value { IfOk result (λ bs. bs ≡ each_value (map bound_of subs.now) env.old.items) }
+    ensures value { IfOk result (λ bs. bs ≡ each_pattern_value (map bound_of subs.now) env.old.items) }
     ensures env { OnOk result (env.new.items ≡ env.old.items) }
 {
     let mut built = List::with_capacity(alloc, subs.len() as u64)?;
@@ -120,7 +120,7 @@ fn build_args(
     args: &[RawPattern],
     env: &mut Vec<Sym>,
 ) -> Result<List<Pattern>, NoMemory>
-    ensures value { IfOk result (λ ps. ps ≡ each_value (map pattern_of args.now) env.old.items) }
+    ensures value { IfOk result (λ ps. ps ≡ each_pattern_value (map pattern_of args.now) env.old.items) }
     ensures env { OnOk result (env.new.items ≡ env.old.items) }
 {
     let mut built = List::with_capacity(alloc, args.len() as u64)?;

@@ -52,6 +52,7 @@ all_indented indent [] = []
 all_indented indent (t ∷ ts) = t indent ++ all_indented indent ts
 
 module _ (names : List (List ℕ)) (rules : List RuleOf) (justs : List Just) where
+  -- the line of a node, and those of its kids after it
   abbrev pub tree_step : Tree-F Sequent Indented → Indented
   tree_step (layer.Leaf goal) indent = indent ++ codes "open" ++ goal_text names goal
   tree_step (layer.Step goal just kids) indent =

@@ -28,8 +28,8 @@ names_by names source (Ok ts) = names_after names (pieces_of source ts)
 names_by names source (Err f) = names
 
 -- the table of names that a text leaves; one with a lexical fault enters none
-abbrev pub names_in : List (List ℕ) → List ℕ → List (List ℕ)
-names_in names source = names_by names source (lex source)
+abbrev pub table_after : List (List ℕ) → List ℕ → List (List ℕ)
+table_after names source = names_by names source (lex source)
 
 -- the fault of a text that stands for a lexical fault
 abbrev pub of_lexical : LexWhy → TextWhy
@@ -54,8 +54,8 @@ error_at source ts l w = record { at = byte_of source ts l; why = w }
 
 -- the tokens of a text and their words, or its lexical fault, and the table of names after it; nothing if memory ran out
 abbrev pub LexesText : List (List ℕ) → List ℕ → Result Lexed TextFail → List (List ℕ) → Type 0
-LexesText old source (Ok text) new = (lex source ≡ Ok text.tokens) × (text.words ≡ words_in old source text.tokens) × (new ≡ names_in old source)
-LexesText old source (Err (fail.Bad e)) new = (w : LexWhy) × (lex source ≡ Err (e.at, w)) × (e.why ≡ of_lexical w) × (new ≡ names_in old source)
+LexesText old source (Ok text) new = (lex source ≡ Ok text.tokens) × (text.words ≡ words_in old source text.tokens) × (new ≡ table_after old source)
+LexesText old source (Err (fail.Bad e)) new = (w : LexWhy) × (lex source ≡ Err (e.at, w)) × (e.why ≡ of_lexical w) × (new ≡ table_after old source)
 LexesText old source (Err fail.NoMemory) new = Unit {0}
 
 -- what a reader that stopped makes of the text: Syntax at the place where it is stuck, or want of memory
@@ -81,8 +81,8 @@ module _ {X V : Type 0} (Is : X → List Word → List Word → Type 0) (Stuck :
 
   -- what a reader answers of a text, and the table of names after it
   abbrev pub ReadsText : List (List ℕ) → List ℕ → Result V TextFail → List (List ℕ) → Type 0
-  ReadsText old source (Ok v) new = IsText old source v × (new ≡ names_in old source)
-  ReadsText old source (Err (fail.Bad e)) new = IsFaulty old source e × (new ≡ names_in old source)
+  ReadsText old source (Ok v) new = IsText old source v × (new ≡ table_after old source)
+  ReadsText old source (Err (fail.Bad e)) new = IsFaulty old source e × (new ≡ table_after old source)
   ReadsText old source (Err fail.NoMemory) new = Extends old new
 
   -- a text has one value or one fault, and not both

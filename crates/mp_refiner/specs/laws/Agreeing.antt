@@ -19,8 +19,9 @@ use Rattle.mp_schema.specs.declared.schema.Schema.{Schema}
 use Rattle.mp_schema.specs.Conditions.{Before, nothing_before, past, past_all, each_item, has, has_all, is_apart, is_known, lists_known, lists_known_bound, pattern_placed, all_placed, item_placed, is_placed}
 use Rattle.mp_schema.specs.Instances.{Values, Ground, upto, made_each, param_of, inst_of, inst_bound, all_pass}
 use Rattle.mp_schema.specs.Induction.{each_pattern, OfEachBody, OfEachArg}
-use Rattle.mp_schema.specs.Occurrences.{Occurrence, occurrences_in, occurrences_in_bound, occurrences_in_item, occurrences_in_schema, level_of, hole_in_param, holes_in, holes_in_bound, holes_in_item, holes_in_schema}
-use Rattle.mp_schema.specs.Sequents.{Instance, Spot, first_spot, joined, ground_at, telescope, behind, hyps_from, behind_all, concl_at, seq}
+use Rattle.mp_schema.specs.Occurrences.{Occurrence, occurrences_in, occurrences_in_bound, occurrences_in_item, occurrences_in_schema, variable_level, hole_in_param, holes_in, holes_in_bound, holes_in_item, holes_in_schema}
+use Rattle.mp_schema.specs.Sequents.{Instance, Spot, first_spot, ground_at, telescope, behind, hyps_from, behind_all, concl_at, seq}
+use Rattle.mp_logic.specs.Lists.{joined}
 use Rattle.mp_schema.proofs.Layers.{inst-Var, inst-Op, inst-Meta, inst_bound-is, lists_known-Op, lists_known-Meta, lists_known_bound-is, occurrences_in-Op, occurrences_in-Meta, occurrences_in_bound-is, holes_in-Op, holes_in-Meta, holes_in_bound-is}
 use Rattle.mp_refiner.specs.laws.Lists.{In, in-left, in-right, in-split}
 use Rattle.mp_refiner.specs.laws.Kinds.{Kind, kind_of, same_name, context_at, plain}
@@ -93,7 +94,7 @@ module _ (g h : Ground) (v w : Values) (known : List Sym) (grounds : (cs : List 
       let both = and_both (is_known known cs) (all_pass (map (lists_known known) args)) (sym (lists_known-Meta known n cs args) ∙ k) in
       let lists = and_both (has_all known cs) (is_apart cs) both.0 in
       let here : v.meta n ≡ w.meta n =
-      let o : Occurrence = record { is_context = false; name = n; ctxs = cs; levels = map level_of args } in
+      let o : Occurrence = record { is_context = false; name = n; ctxs = cs; levels = map variable_level args } in
       metas o (subst (In o) (sym (occurrences_in-Meta n cs args)) (inl refl)) in
       let others = same_args args all (λ x i. metas x (subst (In x) (sym (occurrences_in-Meta n cs args)) (inr i)))
       (λ x i. holes x (subst (In x) (sym (holes_in-Meta n cs args)) i)) both.1 env m in

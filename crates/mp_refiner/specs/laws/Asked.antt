@@ -13,7 +13,7 @@ use Rattle.mp_schema.specs.declared.instance.MetaVal.{MetaVal}
 use Rattle.mp_schema.specs.declared.instance.Inst.{Inst}
 use Rattle.mp_schema.specs.declared.schema.Schema.{Schema}
 use Rattle.mp_schema.specs.Conditions.{nothing_before, past_all, has_all, is_apart, is_known, context_names, has_two_contexts}
-use Rattle.mp_theory.specs.Allowed.{same_bool}
+use Rattle.mp_logic.specs.Lists.{same_bool}
 use Rattle.mp_schema.specs.Values.{find_meta}
 use Rattle.mp_match.specs.Walks.{match_of, widest_in_sequent}
 use Rattle.mp_match.proofs.Narrow.{narrow-goal}

@@ -13,7 +13,7 @@ use Rattle.mp_schema.specs.declared.schema.Item.TheVariants.{Ctx, Hyp}
 use Rattle.mp_schema.specs.declared.schema.Schema.{Schema}
 use Rattle.mp_schema.specs.Instances.{all_pass}
 use Rattle.mp_schema.specs.Induction.{each_pattern, OfEachBody, OfEachArg}
-use Rattle.mp_schema.specs.Occurrences.{Occurrence, occurrences_in, occurrences_in_bound, occurrences_in_item, occurrences_in_schema, level_of, hole_in_param, holes_in, holes_in_bound, holes_in_item, holes_in_schema}
+use Rattle.mp_schema.specs.Occurrences.{Occurrence, occurrences_in, occurrences_in_bound, occurrences_in_item, occurrences_in_schema, variable_level, hole_in_param, holes_in, holes_in_bound, holes_in_item, holes_in_schema}
 use Rattle.mp_schema.specs.Values.{find_meta, find_param, find_ctx}
 use Rattle.mp_schema.proofs.Layers.{occurrences_in-Var, occurrences_in-Op, occurrences_in-Meta, occurrences_in_bound-is, holes_in-Var, holes_in-Op, holes_in-Meta, holes_in_bound-is}
 use Rattle.mp_match.specs.Covering.{is_there, covered, covered_bound, param_covered, is_covered, item_covered, schema_covered}
@@ -78,7 +78,7 @@ module _ (hm hp : Sym → Bool) where
       }
 
   first_has : (n : Sym) (cs : List Sym) (args : List Pattern) → hm n ≡ true → ((o : Occurrence) → In o (flat_map occurrences_in args) → hm o.name ≡ true) →
-      (o : Occurrence) → In o (record { is_context = false; name = n; ctxs = cs; levels = map level_of args } ∷ flat_map occurrences_in args) → hm o.name ≡ true
+      (o : Occurrence) → In o (record { is_context = false; name = n; ctxs = cs; levels = map variable_level args } ∷ flat_map occurrences_in args) → hm o.name ≡ true
   first_has n cs args e h o (inl same) = ap (λ (x : Occurrence). hm x.name) (sym same) ∙ e
   first_has n cs args e h o (inr i) = h o i
 

@@ -20,7 +20,7 @@ use Rattle.mp_theory.specs.declared.just.Just.TheVariants as just
 use Rattle.mp_theory.specs.Needs.{needs_of}
 use Rattle.mp_refiner.specs.Ready.{IsReady}
 use Rattle.mp_theory.specs.Allowed.{is_good, is_allowed_at, is_allowed}
-use Rattle.mp_refiner.specs.Steps.{given_all, outcome_given, outcome_matched, outcome_of, outcome_at, step_by}
+use Rattle.mp_refiner.specs.Steps.{given_all, outcome_given, outcome_matched, outcome_of, outcome_at, step_of_rules}
 use Rattle.mp_refiner.specs.laws.Lists.{In}
 use Rattle.mp_refiner.specs.laws.Agreeing.{and_both}
 use Rattle.mp_refiner.specs.laws.Asked.{IsAsked, asked}
@@ -86,5 +86,5 @@ option_keeps_good : (rule : Option Rule) (first : Option ℕ) (given : List Give
 option_keeps_good None first given goal allowed good = tt
 option_keeps_good (Some rule) first given goal allowed good = rule_keeps_good rule first given goal (asked rule first given goal allowed good)
 
-pub step_keeps_good : (rules : List Rule) (j : Just) (goal : Sequent) → IsTrue (is_allowed rules j) → IsTrue (is_good goal) → IfOk (step_by rules j goal) AreGood
+pub step_keeps_good : (rules : List Rule) (j : Just) (goal : Sequent) → IsTrue (is_allowed rules j) → IsTrue (is_good goal) → IfOk (step_of_rules rules j goal) AreGood
 step_keeps_good rules (just.Rule place first given) goal allowed good = option_keeps_good (slice_get rules place) first given goal allowed good

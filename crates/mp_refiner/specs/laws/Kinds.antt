@@ -9,9 +9,10 @@ use Rattle.mp_schema.specs.declared.pattern.Pattern.{Pattern}
 use Rattle.mp_schema.specs.declared.pattern.PBound.{PBound}
 use Rattle.mp_schema.specs.declared.schema.Item.{Item}
 use Rattle.mp_schema.specs.declared.schema.Item.TheVariants.{Ctx, Hyp}
-use Rattle.mp_schema.specs.Conditions.{has, has_all, names_in}
-use Rattle.mp_schema.specs.Faults.{is_consistent, is_like, is_like_first, same_names, same_bool}
-use Rattle.mp_schema.specs.Occurrences.{Occurrence, occurrences_in, occurrences_in_bound, occurrences_in_item, level_of, first_named}
+use Rattle.mp_schema.specs.Conditions.{has, has_all, contexts_among}
+use Rattle.mp_schema.specs.Faults.{is_consistent, is_like, is_like_first, same_names}
+use Rattle.mp_logic.specs.Lists.{same_bool}
+use Rattle.mp_schema.specs.Occurrences.{Occurrence, occurrences_in, occurrences_in_bound, occurrences_in_item, variable_level, first_named}
 use Rattle.mp_schema.specs.Induction.{each_pattern, OfEachBody, OfEachArg}
 use Rattle.mp_schema.proofs.Layers.{occurrences_in-Var, occurrences_in-Op, occurrences_in-Meta, occurrences_in_bound-is}
 use Rattle.mp_refiner.specs.laws.Lists.{In, in-right, in-split, all-in, find-Some, find-None}
@@ -88,7 +89,7 @@ plain_args (a ∷ rest) h o i = elim (in-split o (occurrences_in a) (flat_map oc
 ]
 
 plain_meta : (name : Sym) (ctxs : List Sym) (args : List Pattern) → ((o : Occurrence) → In o (flat_map occurrences_in args) → o.is_context ≡ false) → (o : Occurrence) →
-    In o (record { is_context = false; name = name; ctxs = ctxs; levels = map level_of args } ∷ flat_map occurrences_in args) → o.is_context ≡ false
+    In o (record { is_context = false; name = name; ctxs = ctxs; levels = map variable_level args } ∷ flat_map occurrences_in args) → o.is_context ≡ false
 plain_meta name ctxs args h o (inl e) = ap (λ (x : Occurrence). x.is_context) (sym e)
 plain_meta name ctxs args h o (inr i) = h o i
 
@@ -102,10 +103,10 @@ plain_each [] o i = absurd i
 plain_each (a ∷ rest) o i = elim (in-split o (occurrences_in a) (flat_map occurrences_in rest) i) [ inl j ↦ plain a o j | inr j ↦ plain_each rest o j ]
 
 abbrev pub context_at : Sym → List Sym → List Pattern → Occurrence
-context_at name ctxs args = record { is_context = true; name = name; ctxs = ctxs; levels = map level_of args }
+context_at name ctxs args = record { is_context = true; name = name; ctxs = ctxs; levels = map variable_level args }
 
 -- the contexts among the items are those that occur
-pub occurs_context : (items : List Item) (o : Occurrence) → In o (flat_map occurrences_in_item items) → o.is_context ≡ true → has (names_in items) o.name ≡ true
+pub occurs_context : (items : List Item) (o : Occurrence) → In o (flat_map occurrences_in_item items) → o.is_context ≡ true → has (contexts_among items) o.name ≡ true
 occurs_context [] o i e = absurd i
 occurs_context (Hyp p ∷ is) o i e = elim (in-split o (occurrences_in p) (flat_map occurrences_in_item is) i) [
   | inl j ↦ let f = plain p o j in absurd cc
@@ -122,14 +123,14 @@ pub record ContextIn (items : List Item) (name : Sym) : Type 0 where
   pub named : at.name ≡ name
   pub context : at.is_context ≡ true
 
-pub context_occurs : (items : List Item) (name : Sym) → has (names_in items) name ≡ true → ContextIn items name
+pub context_occurs : (items : List Item) (name : Sym) → has (contexts_among items) name ≡ true → ContextIn items name
 context_occurs [] name e = absurd cc
 context_occurs (Hyp p ∷ is) name e =
     let r = context_occurs is name e in
     record { at = r.at; there = in-right r.at (occurrences_in p) (flat_map occurrences_in_item is) r.there; named = r.named; context = r.context }
 context_occurs (Ctx other ctxs args ∷ is) name e = by (nat_eq other.0 name.0) refl e (context_occurs is name)
   where
-    by : (b : Bool) → nat_eq other.0 name.0 ≡ b → (b || has (names_in is) name) ≡ true → (has (names_in is) name ≡ true → ContextIn is name) → ContextIn (Ctx other ctxs args ∷ is) name
+    by : (b : Bool) → nat_eq other.0 name.0 ≡ b → (b || has (contexts_among is) name) ≡ true → (has (contexts_among is) name ≡ true → ContextIn is name) → ContextIn (Ctx other ctxs args ∷ is) name
     by true t k rest = record { at = context_at other ctxs args; there = inl refl; named = same_name other name t; context = refl }
     by false t k rest =
         let r = rest k in

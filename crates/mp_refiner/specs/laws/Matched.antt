@@ -7,7 +7,7 @@ use Rattle.mp_term.specs.Limits.{sequent_in_scope_of}
 use Rattle.mp_schema.specs.declared.instance.Inst.{Inst}
 use Rattle.mp_schema.specs.declared.schema.Schema.{Schema}
 use Rattle.mp_schema.specs.Conditions.{is_conclusion, has_two_contexts}
-use Rattle.mp_theory.specs.Allowed.{same_bool}
+use Rattle.mp_logic.specs.Lists.{same_bool}
 use Rattle.mp_schema.specs.Sequents.{Instance}
 use Rattle.mp_schema.specs.Values.{instance_of}
 use Rattle.mp_match.specs.Covering.{schema_covered}

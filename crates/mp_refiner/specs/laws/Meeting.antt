@@ -11,8 +11,9 @@ use Rattle.mp_schema.specs.declared.instance.Inst.{Inst}
 use Rattle.mp_schema.specs.declared.schema.Schema.{Schema}
 use Rattle.mp_schema.specs.Conditions.{has, has_all, context_names}
 use Rattle.mp_schema.specs.Instances.{upto}
-use Rattle.mp_schema.specs.Sequents.{Instance, first_spot, joined, behind_all, ground_at, wide_of}
-use Rattle.mp_schema.specs.Values.{variables_of, first_of, kept_of}
+use Rattle.mp_schema.specs.Sequents.{Instance, first_spot, behind_all, ground_at, wide_of}
+use Rattle.mp_logic.specs.Lists.{joined}
+use Rattle.mp_schema.specs.Values.{variables_of, first_variable_of, kept_of}
 use Rattle.mp_match.specs.Giving.{given_levels}
 use Rattle.mp_match.proofs.Ranges.{length-upto}
 use Rattle.mp_theory.specs.declared.rule.Need.{Need}
@@ -25,7 +26,7 @@ use Rattle.mp_refiner.specs.laws.Given.{MeetsBy, AllMeetBy}
 -- the contexts of an instance are those that are found: each has the same hypotheses and begins at the same level
 pub record IsLaidAs (v : Instance) (c : Schema) (i : Inst) : Type 0 where
   pub ambient : v.ambient ≡ 0
-  pub pos : (name : Sym) → has (context_names c) name ≡ true → (behind_all v c.items first_spot).pos name ≡ first_of i.ctxs name
+  pub pos : (name : Sym) → has (context_names c) name ≡ true → (behind_all v c.items first_spot).pos name ≡ first_variable_of i.ctxs name
   pub kept : (name : Sym) → has (context_names c) name ≡ true → v.kept name ≡ kept_of i.ctxs name
 
 module _ (v : Instance) (c : Schema) (i : Inst) (laid : IsLaidAs v c i) where
@@ -40,8 +41,8 @@ module _ (v : Instance) (c : Schema) (i : Inst) (laid : IsLaidAs v c i) where
       let k = laid.kept n both.0 in
       let rest = same_blocks cs both.1 in
       ap (λ m. upto m (length (v.kept n)) ++ joined (map (λ n. upto (pos n) (length (v.kept n))) cs)) p
-      ∙ ap (λ (ts : List Term). upto (first_of i.ctxs n) (length ts) ++ joined (map (λ n. upto (pos n) (length (v.kept n))) cs)) k
-      ∙ ap (λ ls. upto (first_of i.ctxs n) (length (kept_of i.ctxs n)) ++ ls) rest
+      ∙ ap (λ (ts : List Term). upto (first_variable_of i.ctxs n) (length ts) ++ joined (map (λ n. upto (pos n) (length (v.kept n))) cs)) k
+      ∙ ap (λ ls. upto (first_variable_of i.ctxs n) (length (kept_of i.ctxs n)) ++ ls) rest
 
   same_ground : (cs : List Sym) → has_all (context_names c) cs ≡ true → ground_at v pos cs ≡ variables_of i.ctxs cs
   same_ground cs e = ap (λ n. upto 0 n ++ joined (map (λ n. upto (pos n) (length (v.kept n))) cs)) laid.ambient ∙ same_blocks cs e
@@ -52,8 +53,8 @@ module _ (v : Instance) (c : Schema) (i : Inst) (laid : IsLaidAs v c i) where
       let both = and_both (has (context_names c) n) (has_all (context_names c) cs) e in
       let k = ap (λ (ts : List Term). length ts) (laid.kept n both.0) in
       let rest = length-blocks cs both.1 in
-      let one = length-upto (first_of i.ctxs n) (length (kept_of i.ctxs n)) in
-      let all = length-append (upto (first_of i.ctxs n) (length (kept_of i.ctxs n))) (variables_of i.ctxs cs) in
+      let one = length-upto (first_variable_of i.ctxs n) (length (kept_of i.ctxs n)) in
+      let all = length-append (upto (first_variable_of i.ctxs n) (length (kept_of i.ctxs n))) (variables_of i.ctxs cs) in
       let total : sum (map (λ n. length (v.kept n)) (n ∷ cs)) ≡ length (v.kept n) + sum (map (λ n. length (v.kept n)) cs) = grind (arith, common_steps) in
       omega arith
 

@@ -16,7 +16,7 @@ use Rattle.mp_schema.specs.declared.schema.Schema.{Schema}
 use Rattle.mp_schema.specs.Faults.{are_distinct, has_level}
 use Rattle.mp_schema.specs.Instances.{Values, Ground, made_each, param_of, inst_of, inst_bound}
 use Rattle.mp_schema.specs.Induction.{each_pattern, OfEachBody, OfEachArg}
-use Rattle.mp_schema.specs.Occurrences.{Occurrence, occurrences_in, occurrences_in_bound, occurrences_in_item, occurrences_in_schema, level_of}
+use Rattle.mp_schema.specs.Occurrences.{Occurrence, occurrences_in, occurrences_in_bound, occurrences_in_item, occurrences_in_schema, variable_level}
 use Rattle.mp_schema.specs.Sequents.{Instance, Spot, first_spot, ground_at, telescope, behind, hyps_from, behind_all, concl_at, seq}
 use Rattle.mp_schema.proofs.Layers.{inst-Op, inst-Meta, inst_bound-is, level_of-Op, level_of-Meta, occurrences_in-Var, occurrences_in-Op, occurrences_in-Meta, occurrences_in_bound-is}
 use Rattle.mp_refiner.specs.laws.Lists.{In, in-left, in-right, in-split, list_all-append}
@@ -27,7 +27,7 @@ use Rattle.mp_refiner.specs.laws.Before.{IsInherited}
 -- ## Arguments that are variables
 
 abbrev IsBare : Pattern → Type 0
-IsBare p = (l : ℕ) → level_of p ≡ Some l → occurrences_in p ≡ []
+IsBare p = (l : ℕ) → variable_level p ≡ Some l → occurrences_in p ≡ []
 
 bare : (p : Pattern) → IsBare p
 bare =
@@ -40,10 +40,10 @@ first_is_level None rest e = absurd cc
 first_is_level (Some l) rest e = ((l, refl), (and_both (not (has_level rest l)) (are_distinct rest) e).1)
 
 -- nothing occurs in arguments that are distinct variables
-pub no_occurrence : (args : List Pattern) → are_distinct (map level_of args) ≡ true → flat_map occurrences_in args ≡ []
+pub no_occurrence : (args : List Pattern) → are_distinct (map variable_level args) ≡ true → flat_map occurrences_in args ≡ []
 no_occurrence [] e = refl
 no_occurrence (a ∷ rest) e =
-    let k = first_is_level (level_of a) (map level_of rest) e in
+    let k = first_is_level (variable_level a) (map variable_level rest) e in
     let here = bare a k.0.0 k.0.1 in
     let there = no_occurrence rest k.1 in
     rw (here, there) refl
@@ -79,7 +79,7 @@ module _ (test : Term → Bool) (inherited : IsInherited test) where
         passed_bodies subs all (λ y j. on y (subst (In y) (sym (occurrences_in-Op o ps subs)) j)) env m bodies x (subst (In x) (occurrences_in-Op o ps subs) i)
 
     abbrev at : Sym → List Sym → List Pattern → Occurrence
-    at n cs args = record { is_context = false; name = n; ctxs = cs; levels = map level_of args }
+    at n cs args = record { is_context = false; name = n; ctxs = cs; levels = map variable_level args }
 
     meta_case : (n : Sym) (cs : List Sym) (args : List Pattern) → test (v.meta n) ≡ true → flat_map occurrences_in args ≡ [] → MetasPass (at n cs args ∷ flat_map occurrences_in args)
     meta_case n cs args e none o (inl same) = ap (λ (x : Occurrence). test (v.meta x.name)) (sym same) ∙ e

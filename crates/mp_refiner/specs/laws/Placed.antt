@@ -9,7 +9,7 @@ use Rattle.mp_schema.specs.declared.pattern.Pattern.{Pattern}
 use Rattle.mp_schema.specs.declared.schema.Item.{Item}
 use Rattle.mp_schema.specs.declared.schema.Item.TheVariants.{Ctx, Hyp}
 use Rattle.mp_schema.specs.declared.schema.Schema.{Schema}
-use Rattle.mp_schema.specs.Conditions.{Before, nothing_before, past, past_all, each_item, has, has_all, is_apart, is_known, names_in, context_names, lists_known, pattern_placed, all_placed, item_placed, is_placed}
+use Rattle.mp_schema.specs.Conditions.{Before, nothing_before, past, past_all, each_item, has, has_all, is_apart, is_known, contexts_among, context_names, lists_known, pattern_placed, all_placed, item_placed, is_placed}
 use Rattle.mp_schema.specs.Occurrences.{Occurrence, occurrences_in, occurrences_in_item, occurrences_in_schema}
 use Rattle.mp_schema.proofs.Told.{known_use, lists_known-told}
 use Rattle.mp_refiner.specs.laws.Lists.{In, in-split, all-in}
@@ -63,7 +63,7 @@ module _ (names : List Sym) where
       by true t k = subst (λ (n : Sym). has names n ≡ true) (same_name name c t) here
       by false t k = h c k
 
-  pub items_known : (items : List Item) (b : Before) (o : Occurrence) → IsWithin b.contexts names → IsWithin (names_in items) names → each_item item_placed items b ≡ true →
+  pub items_known : (items : List Item) (b : Before) (o : Occurrence) → IsWithin b.contexts names → IsWithin (contexts_among items) names → each_item item_placed items b ≡ true →
       In o (flat_map occurrences_in_item items) → is_known names o.ctxs ≡ true
   items_known [] b o h k e i = absurd i
   items_known (Hyp p ∷ is) b o h k e i =
@@ -81,7 +81,7 @@ module _ (names : List Sym) where
       ]
 
 -- what stands before the conclusion are the contexts of the items
-pub past_within : (items : List Item) (b : Before) (c : Sym) → has (past_all items b).contexts c ≡ (has b.contexts c || has (names_in items) c)
+pub past_within : (items : List Item) (b : Before) (c : Sym) → has (past_all items b).contexts c ≡ (has b.contexts c || has (contexts_among items) c)
 past_within [] b c = grind (arith, common_steps)
 past_within (Hyp p ∷ is) b c = past_within is (past (Hyp p) b) c
 past_within (Ctx name ctxs args ∷ is) b c = let ih = past_within is (past (Ctx name ctxs args) b) c in grind (arith, common_steps, ih)

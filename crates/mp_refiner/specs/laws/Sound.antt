@@ -19,7 +19,7 @@ use Rattle.mp_schema.specs.Faults.{rule_fault_of, occurrences_of_rule, is_listed
 use Rattle.mp_schema.specs.Instances.{all_pass}
 use Rattle.mp_schema.specs.Induction.{each_pattern, OfEachBody, OfEachArg}
 use Rattle.mp_schema.specs.Limits.{few_of, few_of_bound, few_of_item, few_of_schema, is_shallow_schema}
-use Rattle.mp_schema.specs.Occurrences.{Occurrence, occurrences_in, occurrences_in_bound, occurrences_in_item, occurrences_in_schema, level_of, holes_in_schema}
+use Rattle.mp_schema.specs.Occurrences.{Occurrence, occurrences_in, occurrences_in_bound, occurrences_in_item, occurrences_in_schema, variable_level, holes_in_schema}
 use Rattle.mp_schema.proofs.Faultless.{KeepsRule, KeepsRule-from, IsFaultlessRule-from}
 use Rattle.mp_schema.proofs.Layers.{occurrences_in-Var, occurrences_in-Op, occurrences_in-Meta, occurrences_in_bound-is}
 use Rattle.mp_build.proofs.LimitLayers.{few_of-Op, few_of-Meta, few_of_bound-is}
@@ -57,10 +57,10 @@ few_args (a ∷ rest) h e o i =
     ]
 
 first_few : (c : Bool) (n : Sym) (cs : List Sym) (args : List Pattern) → nat_le (length args) 8 ≡ true → FewLevels (flat_map occurrences_in args) →
-    FewLevels (record { is_context = c; name = n; ctxs = cs; levels = map level_of args } ∷ flat_map occurrences_in args)
+    FewLevels (record { is_context = c; name = n; ctxs = cs; levels = map variable_level args } ∷ flat_map occurrences_in args)
 first_few c n cs args e h o (inl same) =
-    let many = length-map args level_of in
-    let levels : map level_of args ≡ o.levels = ap (λ (x : Occurrence). x.levels) same in
+    let many = length-map args variable_level in
+    let levels : map variable_level args ≡ o.levels = ap (λ (x : Occurrence). x.levels) same in
     let few : length args ≤ 8 = grind (arith, nat_tests, e) in
     rw (← levels) (omega arith)
 first_few c n cs args e h o (inr i) = h o i

@@ -13,7 +13,7 @@ use Rattle.mp_schema.specs.declared.pattern.PBound.{PBound}
 use Rattle.mp_schema.specs.declared.schema.Item.{Item}
 use Rattle.mp_schema.specs.declared.schema.Item.TheVariants.{Ctx, Hyp}
 use Rattle.mp_schema.specs.declared.schema.Schema.{Schema}
-use Rattle.mp_schema.specs.Occurrences.{Occurrence, occurrences_in, occurrences_in_bound, occurrences_in_item, occurrences_in_schema, level_of}
+use Rattle.mp_schema.specs.Occurrences.{Occurrence, occurrences_in, occurrences_in_bound, occurrences_in_item, occurrences_in_schema, variable_level}
 use Rattle.mp_schema.specs.Induction.{each_pattern, OfEachBody, OfEachArg}
 use Rattle.mp_schema.proofs.Layers.{occurrences_in-Var, occurrences_in-Op, occurrences_in-Meta, occurrences_in_bound-is}
 use Rattle.mp_theory.specs.declared.rule.Need.{Need}
@@ -76,9 +76,9 @@ used =
     each_pattern Used (λ l. uses_of-Var l ∙ ap uses_in (sym (occurrences_in-Var l)))
     (λ o ps subs h. uses_of-Op o ps subs ∙ used_bodies subs h ∙ ap uses_in (sym (occurrences_in-Op o ps subs)))
     (λ n cs args h.
-    let many : length (map level_of args) ≡ length args = length-map args level_of in
+    let many : length (map variable_level args) ≡ length args = length-map args variable_level in
     let first : (record { name = n; ctxs = cs; arity = min (length args) 4294967295 } ∷ all_uses (map uses_of args))
-    ≡ (record { name = n; ctxs = cs; arity = min (length (map level_of args)) 4294967295 } ∷ uses_in (flat_map occurrences_in args)) = rw (many, used_args args h) refl in
+    ≡ (record { name = n; ctxs = cs; arity = min (length (map variable_level args)) 4294967295 } ∷ uses_in (flat_map occurrences_in args)) = rw (many, used_args args h) refl in
     uses_of-Meta n cs args ∙ first ∙ ap uses_in (sym (occurrences_in-Meta n cs args)))
 
 used_each : (args : List Pattern) → all_uses (map uses_of args) ≡ uses_in (flat_map occurrences_in args)

@@ -16,7 +16,7 @@ use Rattle.mp_theory.specs.declared.just.Given.{Given}
 use Rattle.mp_theory.specs.declared.just.Just.{Just}
 use Rattle.mp_theory.specs.declared.just.Just.TheVariants as just
 use Rattle.mp_theory.specs.Needs.{needs_of}
-use Rattle.mp_refiner.specs.Steps.{given_all, outcome_given, outcome_matched, outcome_of, outcome_at, step_by, width_of_rules}
+use Rattle.mp_refiner.specs.Steps.{given_all, outcome_given, outcome_matched, outcome_of, outcome_at, step_of_rules, width_of_rules}
 
 abbrev pub AtMost : ℕ → List Sequent → Type 0
 AtMost n kids = length kids ≤ n
@@ -55,5 +55,5 @@ option_narrow rules None first given goal h = tt
 option_narrow rules (Some rule) first given goal h =
     at_most (outcome_of rule first given goal) (length rule.premises) (width_of_rules rules) (h rule refl) (rule_narrow rule first given goal)
 
-pub step_within_width : (rules : List Rule) (j : Just) (goal : Sequent) → IfOk (step_by rules j goal) (AtMost (width_of_rules rules))
+pub step_within_width : (rules : List Rule) (j : Just) (goal : Sequent) → IfOk (step_of_rules rules j goal) (AtMost (width_of_rules rules))
 step_within_width rules (just.Rule place first given) goal = option_narrow rules (slice_get rules place) first given goal (λ r e. wide rules place r e)

@@ -1,7 +1,8 @@
 use Rattle.std.proofs.Common.{◌≡◌, ◌++◌, map, length, drop}
 use Rattle.mp_term.specs.declared.term.Term.{Var}
 use Rattle.mp_schema.specs.Instances.{upto}
-use Rattle.mp_schema.specs.Sequents.{ground_at, joined}
+use Rattle.mp_schema.specs.Sequents.{ground_at}
+use Rattle.mp_logic.specs.Lists.{joined}
 use Rattle.mp_schema.specs.Values.{instance_of, kept_of}
 use Rattle.mp_build.specs.Sites.{start_of}
 use Rattle.mp_build.proofs.build.variables_before.Given as goal

@@ -1,5 +1,5 @@
 use Rattle.std.proofs.Common.{◌≡◌, ◌+◌, ◌≤◌, drop, map, max, sum}
-use Rattle.mp_term.specs.Terms.{greatest}
+use Rattle.mp_logic.specs.Lists.{greatest}
 use Rattle.mp_schema.specs.Values.{instance_of}
 use Rattle.mp_build.specs.Sizes.{applied_size, applied_depth}
 use Rattle.mp_build.proofs.limits.weigh_row.Given as goal

@@ -1,5 +1,5 @@
 use Rattle.std.proofs.Common.{◌≡◌, ◌+◌, ◌≤◌, drop, map, max, sum}
-use Rattle.mp_term.specs.Terms.{greatest}
+use Rattle.mp_logic.specs.Lists.{greatest}
 use Rattle.mp_schema.specs.Values.{instance_of}
 use Rattle.mp_build.specs.Rooms.{items_room, IsNarrowSomewhere}
 use Rattle.mp_build.specs.Sizes.{item_size, item_depth}

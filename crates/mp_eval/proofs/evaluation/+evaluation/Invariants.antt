@@ -2,7 +2,7 @@ use Rattle.std.proofs.Common.{◌≡◌, ◌≤◌, ◌+◌, ◌-◌, ◌*◌, l
 use Rattle.std.specs.List.{AllByRecursion}
 use Rattle.mp_logic.specs.Trees.{EachLeaf}
 use Rattle.mp_strategy.specs.Evaluation.{eval_in}
-use Rattle.mp_strategy.specs.Fits.{greatest}
+use Rattle.mp_logic.specs.Lists.{greatest}
 use Rattle.mp_strategy.specs.Laws.{depth_of}
 use Rattle.mp_eval.specs.Kids.{on_kids}
 use Rattle.mp_eval.proofs.Leaves.{followed}

@@ -1,6 +1,6 @@
 use Rattle.std.proofs.Common.{◌≡◌, ◌<◌, ◌^◌, drop, map, max}
 use Rattle.mp_logic.specs.Trees.{counted}
-use Rattle.mp_term.specs.Terms.{greatest}
+use Rattle.mp_logic.specs.Lists.{greatest}
 use Rattle.mp_schema.specs.Limits.{pattern_depth_of, pattern_depth_of_bound}
 use Rattle.mp_schema.proofs.measures.+deep.Given as goal
 

@@ -1,7 +1,7 @@
 use Rattle.std.proofs.Common.{◌≡◌, drop, map}
-use Rattle.mp_schema.specs.Occurrences.{level_of}
+use Rattle.mp_schema.specs.Occurrences.{variable_level}
 use Rattle.mp_schema.specs.Faults.{are_distinct}
 use Rattle.mp_schema.proofs.place.are_distinct_variables.Given as goal
 
 abbrev pub invariant-loop-i : goal.invariant-loop-i
-invariant-loop-i l = are_distinct (map level_of (drop l.i l.args)) ≡ are_distinct (map level_of l.args)
+invariant-loop-i l = are_distinct (map variable_level (drop l.i l.args)) ≡ are_distinct (map variable_level l.args)

@@ -2,7 +2,7 @@ use Rattle.std.proofs.Common.{◌++◌, ◌*◌, ◌+◌, ◌≤◌, List, lengt
 use Rattle.mp_words.specs.declared.word.Word.{Word}
 use Rattle.mp_schematext.specs.declared.raw.RawPattern.{RawPattern}
 use Rattle.mp_schematext.specs.declared.raw.RawPatternBound.{RawPatternBound}
-use Rattle.mp_schematext.specs.Grammar.{AreArgs, StuckArgs, AreBounds, StuckBounds}
+use Rattle.mp_schematext.specs.Grammar.{AreArgs, StuckArgs, ArePatternBounds, StuckPatternBounds}
 use Rattle.mp_schematext.proofs.pattern.+parsing.Given as goal
 
 abbrev pub decreases-parse_pattern : goal.decreases-parse_pattern
@@ -39,7 +39,7 @@ decreases-parse_bounds-loop-read l = length l.at
 
 abbrev pub invariant-parse_bounds-loop-read : goal.invariant-parse_bounds-loop-read
 invariant-parse_bounds-loop-read l = record {
-  goes_on : (others : List RawPatternBound) (rest : List Word) → AreBounds others l.at rest → AreBounds (l.subs ++ others) l.words rest;
-  stuck : (rest : List Word) → StuckBounds l.at rest → StuckBounds l.words rest;
+  goes_on : (others : List RawPatternBound) (rest : List Word) → ArePatternBounds others l.at rest → ArePatternBounds (l.subs ++ others) l.words rest;
+  stuck : (rest : List Word) → StuckPatternBounds l.at rest → StuckPatternBounds l.words rest;
   within : length l.at ≤ length l.words;
 }

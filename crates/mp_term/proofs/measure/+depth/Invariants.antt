@@ -1,5 +1,6 @@
 use Rattle.std.proofs.Common.{◌≡◌, ◌+◌, ◌<◌, ◌^◌, drop, map, max}
-use Rattle.mp_term.specs.Terms.{depth_of, depth_step, body_step, greatest}
+use Rattle.mp_term.specs.Terms.{depth_of, depth_step, body_step}
+use Rattle.mp_logic.specs.Lists.{greatest}
 use Rattle.mp_logic.specs.Trees.{counted}
 use Rattle.mp_term.specs.declared.term.Bound.{fold-Bound}
 use Rattle.mp_term.proofs.measure.+depth.Given as goal

@@ -1,5 +1,6 @@
 use Rattle.std.proofs.Common.{◌≡◌, ◌+◌, ◌<◌, ◌^◌, drop, map, max, sum}
-use Rattle.mp_term.specs.Terms.{size_of, size_step, depth_of, depth_step, body_step, greatest}
+use Rattle.mp_term.specs.Terms.{size_of, size_step, depth_of, depth_step, body_step}
+use Rattle.mp_logic.specs.Lists.{greatest}
 use Rattle.mp_logic.specs.Trees.{counted}
 use Rattle.mp_term.specs.declared.term.Bound.{fold-Bound}
 use Rattle.mp_term.proofs.measure.+weigh.Given as goal

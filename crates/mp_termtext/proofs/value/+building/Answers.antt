@@ -10,7 +10,7 @@ use Rattle.mp_termtext.proofs.raw.RawTerm.TheLaws as raw_size
 use Rattle.mp_term.specs.declared.term.Term as term
 use Rattle.mp_termtext.specs.Statics.{level_of}
 use Rattle.std.specs.Prelude.{unwrap_or}
-use Rattle.mp_termtext.specs.Values.{AreFaultless, bound_value_of, each_value, value_of}
+use Rattle.mp_termtext.specs.Values.{AreFaultless, bound_value_of, each_subterm_value, value_of}
 use Rattle.mp_termtext.proofs.Faultless.{body_faultless, first_faultless, level_fits, subs_faultless}
 use Rattle.mp_termtext.proofs.RawLayers.{value-Op}
 use Rattle.mp_termtext.proofs.ValueSteps.{values_next}
@@ -66,5 +66,5 @@ build_term-returns-in_ok-params-in-Op-clause-value t c =
     let free = c.args.free in
     let env = c.args.env.now.items in
     let n = c.in-Op.name in
-    let whole : c.loop-sub.built ≡ each_value (map (bound_value_of free) c.in-Op.subs) env = grind (arith, common_steps) in
+    let whole : c.loop-sub.built ≡ each_subterm_value (map (bound_value_of free) c.in-Op.subs) env = grind (arith, common_steps) in
     ap (λ vs. term.Op n vs c.loop-sub.built) c.in_ok-params-in-Op.ensures ∙ ap (λ bs. term.Op n (map (λ p. p.value) c.in-Op.params) bs) whole ∙ sym (value-Op free n c.in-Op.params c.in-Op.subs c.in-Op.left env) ∙ ap (λ r. value_of free r env) (sym c.in-Op.is)
