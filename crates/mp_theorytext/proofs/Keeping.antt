@@ -163,9 +163,9 @@ items_keep known env final concl b (i ∷ is) s short h f =
 -- ## Contexts
 
 -- the contexts of what is written are those of what it stands for
-contexts_same : (is : List RawItem) (known env : List Sym) → contexts_behind is known ≡ known ++ conditions.names_in (items_of is env)
+contexts_same : (is : List RawItem) (known env : List Sym) → contexts_behind is known ≡ known ++ conditions.contexts_among (items_of is env)
 contexts_same [] known env = sym (append-nil known)
-contexts_same (item.Ctx n cs xs l ∷ is) known env = contexts_same is (known ++ n.name ∷ []) env ∙ append_assoc known (n.name ∷ []) (conditions.names_in (items_of is env))
+contexts_same (item.Ctx n cs xs l ∷ is) known env = contexts_same is (known ++ n.name ∷ []) env ∙ append_assoc known (n.name ∷ []) (conditions.contexts_among (items_of is env))
 contexts_same (item.Hyp n p l ∷ is) known env = contexts_same is known (env ++ n ∷ [])
 
 pub contexts_are : (s : RawSchema) → contexts_of s ≡ context_names (schema_of s)
@@ -185,7 +185,7 @@ module _ (final : Bool) (concl known env : List Sym) (i : RawItem) (is : List Ra
   twice_and_kind = nil_parts (twice_faults known i) kind_faults order_and_nodes.0
 
 -- no context is an item twice
-contexts_new : (final : Bool) (concl known env : List Sym) (is : List RawItem) → items_faults final concl known env is ≡ [] → all_new known (conditions.names_in (items_of is env)) ≡ true
+contexts_new : (final : Bool) (concl known env : List Sym) (is : List RawItem) → items_faults final concl known env is ≡ [] → all_new known (conditions.contexts_among (items_of is env)) ≡ true
 contexts_new final concl known env [] h = refl
 contexts_new final concl known env (item.Ctx n cs xs l ∷ is) h =
     let i = item.Ctx n cs xs l in
@@ -198,7 +198,7 @@ not_not true e = refl
 not_not false e = absurd cc
 
 -- the contexts of a premise are the conclusion's
-pub premise_contexts : (concl known env : List Sym) (is : List RawItem) → items_faults false concl known env is ≡ [] → has_all concl (conditions.names_in (items_of is env)) ≡ true
+pub premise_contexts : (concl known env : List Sym) (is : List RawItem) → items_faults false concl known env is ≡ [] → has_all concl (conditions.contexts_among (items_of is env)) ≡ true
 premise_contexts concl known env [] h = refl
 premise_contexts concl known env (item.Ctx n cs xs l ∷ is) h =
     let i = item.Ctx n cs xs l in
