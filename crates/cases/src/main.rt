@@ -1,5 +1,5 @@
-//! Runs the cases of files: words and files in memory, and what the command has to answer. Each case whose answer is
-//! another is printed with its place and the difference, and last how many passed and failed.
+//! Cases: runs the words of each over files in memory, and prints each whose answer isn't the one that is due, and last
+//! how many passed and how many failed.
 #![tactic(auto)]
 
 mod case;

@@ -152,10 +152,15 @@ fn told_ends(alloc: Global, due: &[usize], ends: &[usize]) -> Result<String, All
     format!(in alloc; "  puts end at {ends:?} and not at {due:?}")
 }
 
-/// Tells with which status the run ended, and with which it has to end.
+/// Tells with which status the run ended, and with which it has to end; then where the bytes differ, if they do.
 fn told_status(alloc: Global, due: &Due, ran: &Ran) -> Result<String, AllocError> {
+    let mut told = format!(in alloc; "  status {} and not {}", ran.status, due.status)?;
     let texts = tell(alloc, due.bytes.as_slice(), ran.sink.sink.taken())?;
-    format!(in alloc; "  status {} and not {}\n{texts}", ran.status, due.status)
+    if !texts.is_empty() {
+        told.push('\n')?;
+        told.push_str(texts.as_str())?;
+    }
+    Ok(told)
 }
 
 /// How the run differs from what is due; None where it doesn't.
