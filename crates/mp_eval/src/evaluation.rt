@@ -7,7 +7,7 @@ ghost use Rattle.mp_logic.specs.Lists.{greatest};
 ghost use Rattle.mp_strategy.specs.Works.{IsWork};
 ghost use Rattle.mp_strategy.specs.Strategies.{Evals, kind_of as kind_of_why, failure as failure_of, step_with};
 ghost use Rattle.mp_strategy.specs.Evaluation.{eval, eval_in, row_of, whole, on_leaves as on_leaves_of};
-ghost use Rattle.mp_strategy.specs.Laws.{depth_of, IsGood, IsSound};
+ghost use Rattle.mp_strategy.specs.Laws.{tree_depth_of, IsGood, IsSound};
 ghost use Rattle.mp_eval.specs.Kids.{on_kids as on_kids_of};
 
 use mp_logic::{JustId, List, Logic, NoMemory, StepErr, Tree, Waiting, Why};
@@ -85,7 +85,7 @@ fn on_leaves<L: Logic>(
 ) -> Result<Outcome<L::Goal>, NoMemory>
     requires tac { at.0 < length problem.now.tacs }
     requires good { EachLeaf (λ g. IsTrue (L.good problem.now.logic.now g)) tree }
-    requires depth { depth_of tree ≤ fuel }
+    requires depth { tree_depth_of tree ≤ fuel }
     ensures { IfOk result (λ o. o ≡ on_leaves_of (eval_in (L.step_of problem.now.logic.now) problem.now.justs 0 problem.now.tacs at.0 left) tree fuel) }
 {
     match tree {
@@ -111,7 +111,7 @@ fn on_kids<L: Logic>(
 ) -> Result<Result<List<Tree<L::Goal>>, Failure<L::Goal>>, NoMemory>
     requires tac { at.0 < length problem.now.tacs }
     requires good { AllByRecursion (EachLeaf (λ g. IsTrue (L.good problem.now.logic.now g))) kids }
-    requires depth { greatest (map depth_of kids) ≤ fuel }
+    requires depth { greatest (map tree_depth_of kids) ≤ fuel }
     ensures { IfOk result (λ r. r ≡ on_kids_of (eval_in (L.step_of problem.now.logic.now) problem.now.justs 0 problem.now.tacs at.0 left) fuel kids) }
 {
     let mut done = List::with_capacity(alloc, kids.len())?;

@@ -1,4 +1,4 @@
-ghost use Rattle.mp_strategy.specs.Laws.{EvalIsAllowed, OnlyEvalIsAllowed, TreesAreSound, ClosedGoalsAreDerivable, GoalsStayGood};
+ghost use Rattle.mp_strategy.specs.Laws.{EvalIsAllowed, OnlyEvalIsAllowed, TreesAreSound, InnerGoalsAreGood, ClosedGoalsAreDerivable, GoalsStayGood};
 
 use mp_logic::Logic;
 use mp_strategy::Problem;
@@ -18,9 +18,14 @@ pub fn trees_are_sound<L: Logic>(problem: &Problem<L>)
     ensures { TreesAreSound (L.step_of problem.now.logic.now) problem.now.justs problem.now.tacs }
 {}
 
-/// Where a strategy gives a tree without open leaves, the goal is derivable.
+/// Each goal of a tree that is valid for a good goal is good, the inner ones too.
+pub fn inner_goals_are_good<L: Logic>(problem: &Problem<L>)
+    ensures { InnerGoalsAreGood (L.step_of problem.now.logic.now) problem.now.justs (L.good problem.now.logic.now) }
+{}
+
+/// Where a strategy gives a tree without open leaves on a good goal, the goal is derivable, by allowed justifications.
 pub fn closed_goals_are_derivable<L: Logic>(problem: &Problem<L>)
-    ensures { ClosedGoalsAreDerivable (L.step_of problem.now.logic.now) problem.now.justs problem.now.tacs }
+    ensures { ClosedGoalsAreDerivable (L.step_of problem.now.logic.now) problem.now.justs (L.good problem.now.logic.now) (L.allowed problem.now.logic.now) problem.now.tacs }
 {}
 
 /// On a good goal a strategy gives trees with good open leaves, and failures at good goals.

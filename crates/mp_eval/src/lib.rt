@@ -6,6 +6,6 @@ mod laws;
 
 pub use evaluation::evaluate;
 pub use laws::{
-    closed_goals_are_derivable, eval_is_allowed, goals_stay_good, only_eval_is_allowed,
-    trees_are_sound,
+    closed_goals_are_derivable, eval_is_allowed, goals_stay_good, inner_goals_are_good,
+    only_eval_is_allowed, trees_are_sound,
 };

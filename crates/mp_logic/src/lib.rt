@@ -1,9 +1,10 @@
-//! What everything stands on: lists, numbers of names, proof trees, and the trait of a logic.
+//! What everything stands on: lists, shared values, numbers of names, proof trees, and the trait of a logic.
 #![tactic(auto)]
 
 mod list;
 mod logic;
 mod memory;
+mod shared;
 mod sym;
 mod tree;
 mod waiting;
@@ -11,6 +12,7 @@ mod waiting;
 pub use list::{List, Text};
 pub use logic::{Logic, StepErr, Why, copy_tree};
 pub use memory::NoMemory;
+pub use shared::Shared;
 pub use sym::Sym;
 pub use tree::{JustId, Tree, count, graft, leaf_count, root};
 pub use waiting::Waiting;

@@ -1,5 +1,6 @@
 pub mod Allowed
 pub mod Goods
+pub mod Inner
 pub mod Only
 pub mod Sound
 pub mod Steps

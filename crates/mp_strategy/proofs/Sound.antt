@@ -18,27 +18,27 @@ use Rattle.mp_strategy.specs.declared.outcome.Outcome.{Outcome}
 use Rattle.mp_strategy.specs.declared.outcome.Outcome.TheVariants as outcome
 use Rattle.mp_logic.specs.Lists.{greatest}
 use Rattle.mp_strategy.specs.Strategies.{Gives, All, AllTrees, ThenGives, left_of, stepped, step_or_failed, step_with, Row, EvalsIn}
-use Rattle.mp_strategy.specs.Laws.{depth_of, IsSound}
+use Rattle.mp_strategy.specs.Laws.{tree_depth_of, IsSound}
 use Rattle.mp_strategy.proofs.Steps.{depth-Leaf, depth-Step, root-Leaf, root-Step, graft-Leaf, every_here, every_kid}
 
 -- a bound of the depths of several trees
-pub depths_within : {G : Type 0} (n : ℕ) (ts : List (Tree G)) → AllByRecursion (λ t. depth_of t ≤ n) ts → greatest (map depth_of ts) ≤ n
+pub depths_within : {G : Type 0} (n : ℕ) (ts : List (Tree G)) → AllByRecursion (λ t. tree_depth_of t ≤ n) ts → greatest (map tree_depth_of ts) ≤ n
 depths_within n [] h = omega arith
-depths_within n (t ∷ ts) h = let rest : greatest (map depth_of ts) ≤ n = depths_within n ts h.1 in let first : depth_of t ≤ n = h.0 in omega (arith, first, rest)
+depths_within n (t ∷ ts) h = let rest : greatest (map tree_depth_of ts) ≤ n = depths_within n ts h.1 in let first : tree_depth_of t ≤ n = h.0 in omega (arith, first, rest)
 
-pub within_depths : {G : Type 0} (n : ℕ) (ts : List (Tree G)) → greatest (map depth_of ts) ≤ n → AllByRecursion (λ t. depth_of t ≤ n) ts
+pub within_depths : {G : Type 0} (n : ℕ) (ts : List (Tree G)) → greatest (map tree_depth_of ts) ≤ n → AllByRecursion (λ t. tree_depth_of t ≤ n) ts
 within_depths n [] h = tt
 within_depths n (t ∷ ts) h =
-    let all : max (depth_of t) (greatest (map depth_of ts)) ≤ n = h in
+    let all : max (tree_depth_of t) (greatest (map tree_depth_of ts)) ≤ n = h in
     (omega (arith, all), within_depths n ts (omega (arith, all)))
 
 roots_of_leaves : {G : Type 0} (goals : List G) → map root_of (map Leaf goals) ≡ goals
 roots_of_leaves [] = refl
 roots_of_leaves (g ∷ goals) = ap (λ x. x ∷ map root_of (map Leaf goals)) (root-Leaf g) ∙ ap (λ xs. g ∷ xs) (roots_of_leaves goals)
 
-depths_of_leaves : {G : Type 0} (n : ℕ) (goals : List G) → AllByRecursion (λ t. depth_of t ≤ n) (map Leaf goals)
+depths_of_leaves : {G : Type 0} (n : ℕ) (goals : List G) → AllByRecursion (λ t. tree_depth_of t ≤ n) (map Leaf goals)
 depths_of_leaves n [] = tt
-depths_of_leaves n (g ∷ goals) = (let e : depth_of (Leaf g) ≡ 0 = depth-Leaf g in omega (arith, e), depths_of_leaves n goals)
+depths_of_leaves n (g ∷ goals) = (let e : tree_depth_of (Leaf g) ≡ 0 = depth-Leaf g in omega (arith, e), depths_of_leaves n goals)
 
 module _ {G J : Type 0} (step : J → G → steps.Outcome G) (justs : List J) where
   -- every step of the tree holds
@@ -46,19 +46,19 @@ module _ {G J : Type 0} (step : J → G → steps.Outcome G) (justs : List J) wh
   Holds t = every-Tree G (StepHolds step justs) t
 
   abbrev For : ℕ → G → Tree G → Type 0
-  For f g t = IsValid step justs t g × (depth_of t ≤ f)
+  For f g t = IsValid step justs t g × (tree_depth_of t ≤ f)
 
   all_leaves_hold : (goals : List G) → AllByRecursion Holds (map Leaf goals)
   all_leaves_hold [] = tt
   all_leaves_hold (g ∷ goals) = (every_leaf (StepHolds step justs) g tt, all_leaves_hold goals)
 
   for_leaf : (f : ℕ) (g : G) → For f g (Leaf g)
-  for_leaf f g = ((root-Leaf g, every_leaf (StepHolds step justs) g tt), let e : depth_of (Leaf g) ≡ 0 = depth-Leaf g in omega (arith, e))
+  for_leaf f g = ((root-Leaf g, every_leaf (StepHolds step justs) g tt), let e : tree_depth_of (Leaf g) ≡ 0 = depth-Leaf g in omega (arith, e))
 
-  for_step : (f : ℕ) (g : G) (just : JustId) (kids : List (Tree G)) → StepHolds step justs (layer.Step g just kids) → AllByRecursion Holds kids → AllByRecursion (λ t. depth_of t ≤ f) kids → For (suc f) g (Step g just kids)
+  for_step : (f : ℕ) (g : G) (just : JustId) (kids : List (Tree G)) → StepHolds step justs (layer.Step g just kids) → AllByRecursion Holds kids → AllByRecursion (λ t. tree_depth_of t ≤ f) kids → For (suc f) g (Step g just kids)
   for_step f g just kids here each low =
-      let e : depth_of (Step g just kids) ≡ 1 + greatest (map depth_of kids) = depth-Step g just kids in
-      let all : greatest (map depth_of kids) ≤ f = depths_within f kids low in
+      let e : tree_depth_of (Step g just kids) ≡ 1 + greatest (map tree_depth_of kids) = depth-Step g just kids in
+      let all : greatest (map tree_depth_of kids) ≤ f = depths_within f kids low in
       ((root-Step g just kids, every_step (StepHolds step justs) g just kids each here), omega (arith, e, all))
 
   -- what grafting makes of a tree, and the trees that it leaves for the leaves after it
@@ -79,11 +79,11 @@ module _ {G J : Type 0} (step : J → G → steps.Outcome G) (justs : List J) wh
 
   record Done (n : ℕ) (kids : List (Tree G)) (more : List (G × ℕ)) (p : List (Tree G) × List (Tree G)) : Type 0 where
     each : AllByRecursion Holds p.0
-    low : AllByRecursion (λ t. depth_of t ≤ n) p.0
+    low : AllByRecursion (λ t. tree_depth_of t ≤ n) p.0
     roots : map root_of p.0 ≡ map root_of kids
     rest : AllTrees (IsSound step justs) more p.1
 
-  keeps_each : (n : ℕ) (kids : List (Tree G)) → AllByRecursion Keeps kids → AllByRecursion Holds kids → AllByRecursion (λ t. depth_of t ≤ n) kids
+  keeps_each : (n : ℕ) (kids : List (Tree G)) → AllByRecursion Keeps kids → AllByRecursion Holds kids → AllByRecursion (λ t. tree_depth_of t ≤ n) kids
       → (more : List (G × ℕ)) (ts : List (Tree G)) → AllTrees (IsSound step justs) (flat_map (λ kid. leaves_of kid n) kids ++ more) ts → Done n kids more (graft_all kids ts)
   keeps_each n [] keeps each low more ts a = record { each = tt; low = tt; roots = refl; rest = a }
   keeps_each n (k ∷ ks) keeps each low more ts a =
@@ -103,10 +103,10 @@ module _ {G J : Type 0} (step : J → G → steps.Outcome G) (justs : List J) wh
 
   keeps_step : (g : G) (just : JustId) (kids : List (Tree G)) → AllByRecursion Keeps kids → Keeps (Step g just kids)
   keeps_step g just kids keeps zero h fits more ts a =
-      absurd (let e : depth_of (Step g just kids) ≡ 1 + greatest (map depth_of kids) = depth-Step g just kids in let low : depth_of (Step g just kids) ≤ 0 = fits.1 in omega (arith, e, low))
+      absurd (let e : tree_depth_of (Step g just kids) ≡ 1 + greatest (map tree_depth_of kids) = depth-Step g just kids in let low : tree_depth_of (Step g just kids) ≤ 0 = fits.1 in omega (arith, e, low))
   keeps_step g just kids keeps (suc n) h fits more ts a =
-      let e : depth_of (Step g just kids) ≡ 1 + greatest (map depth_of kids) = depth-Step g just kids in
-      let deep : depth_of (Step g just kids) ≤ suc n = fits.1 in
+      let e : tree_depth_of (Step g just kids) ≡ 1 + greatest (map tree_depth_of kids) = depth-Step g just kids in
+      let deep : tree_depth_of (Step g just kids) ≤ suc n = fits.1 in
       let same : g ≡ h = sym (root-Step g just kids) ∙ fits.0.0 in
       let one : suc n - 1 ≡ n = omega arith in
       let leaves : leaves_of (Step g just kids) (suc n) ≡ flat_map (λ kid. leaves_of kid n) kids = leaves-Step g just kids (suc n) ∙ ap (λ m. flat_map (λ kid. leaves_of kid m) kids) one in

@@ -8,13 +8,13 @@ use Rattle.mp_logic.specs.declared.tree.Tree.TheVariants.{rolls-Leaf, rolls-Step
 use Rattle.mp_logic.specs.declared.tree.JustId.{JustId}
 use Rattle.mp_logic.specs.Trees.{root_of, goal_at, Grafting, graft_from, graft_step}
 use Rattle.mp_logic.specs.Lists.{greatest}
-use Rattle.mp_strategy.specs.Laws.{depth_of, depth_step}
+use Rattle.mp_strategy.specs.Laws.{tree_depth_of, tree_depth_step}
 
-pub depth-Leaf : {G : Type 0} (g : G) → depth_of (Leaf g) ≡ 0
-depth-Leaf {G} g = let P : Tree G → ℕ = λ t. depth_of t in ap P (sym (rolls-Leaf g)) ∙ fold-roll-Tree G ℕ depth_step (Tree-F.Leaf g)
+pub depth-Leaf : {G : Type 0} (g : G) → tree_depth_of (Leaf g) ≡ 0
+depth-Leaf {G} g = let P : Tree G → ℕ = λ t. tree_depth_of t in ap P (sym (rolls-Leaf g)) ∙ fold-roll-Tree G ℕ tree_depth_step (Tree-F.Leaf g)
 
-pub depth-Step : {G : Type 0} (g : G) (just : JustId) (kids : List (Tree G)) → depth_of (Step g just kids) ≡ 1 + greatest (map depth_of kids)
-depth-Step {G} g just kids = let P : Tree G → ℕ = λ t. depth_of t in ap P (sym (rolls-Step g just kids)) ∙ fold-roll-Tree G ℕ depth_step (Tree-F.Step g just kids)
+pub depth-Step : {G : Type 0} (g : G) (just : JustId) (kids : List (Tree G)) → tree_depth_of (Step g just kids) ≡ 1 + greatest (map tree_depth_of kids)
+depth-Step {G} g just kids = let P : Tree G → ℕ = λ t. tree_depth_of t in ap P (sym (rolls-Step g just kids)) ∙ fold-roll-Tree G ℕ tree_depth_step (Tree-F.Step g just kids)
 
 pub root-Leaf : {G : Type 0} (g : G) → root_of (Leaf g) ≡ g
 root-Leaf g = ap goal_at (outs-Leaf g)

@@ -1,2 +1,13 @@
+pub mod BinderLaws
+pub mod Composed
+pub mod EqualTerms
+pub mod FreeVariables
+pub mod Laws
 pub mod Layers
 pub mod LimitFacts
+pub mod NarrowGoals
+pub mod Renaming
+pub mod ScopeLaws
+pub mod SizeLaws
+pub mod SubLaws
+pub mod WeakLaws

@@ -1,5 +1,5 @@
 -- The test of a sequent's limits, taken apart into its four facts.
-use Rattle.std.proofs.Common.{◌≤◌, List, [], ◌∷◌, All, zero, suc, refl, IsTrue, arith}
+use Rattle.std.proofs.Common.{◌≤◌, List, [], ◌∷◌, All, zero, suc, IsTrue, arith}
 use Rattle.std.specs.List.{list_all}
 use Rattle.std.proofs.lemmas.Bool.Decides.{nat_tests}
 use Rattle.std.proofs.lemmas.Grind.{common_steps}

@@ -1,5 +1,5 @@
 -- The measures of a term.
-use Rattle.std.specs.Prelude.{ℕ, ◌+◌, max, sum, List, [], ◌∷◌, Bool, true, nat_lt, ◌&&◌}
+use Rattle.std.specs.Prelude.{ℕ, ◌+◌, sum, List, [], ◌∷◌, Bool, true, nat_lt, ◌&&◌}
 use Rattle.mp_term.specs.declared.term.Term.{Term, Term-F}
 use Rattle.mp_term.specs.declared.term.Bound.{Bound-F}
 use Rattle.mp_term.specs.declared.term.Term.TheOpen as layer

@@ -14,7 +14,7 @@ pub fn size(t: &Term) -> u64
         Term::Var(_) => 1,
         Term::Op { subs, .. } => {
             let mut total = 1u64;
-            for sub in subs.as_slice() {
+            for sub in subs.get().as_slice() {
                 total = total.saturating_add(size(&sub.body));
             }
             total
@@ -31,7 +31,7 @@ pub fn depth(t: &Term) -> u64
         Term::Var(_) => 1,
         Term::Op { subs, .. } => {
             let mut greatest = 0u64;
-            for sub in subs.as_slice() {
+            for sub in subs.get().as_slice() {
                 greatest = greatest.max(depth(&sub.body));
             }
             greatest.saturating_add(1)
@@ -56,7 +56,7 @@ pub(crate) fn in_wide_scope(t: &Term, scope: u64) -> bool
     match t {
         Term::Var(level) => (*level as u64) < scope,
         Term::Op { subs, .. } => {
-            for sub in subs.as_slice() {
+            for sub in subs.get().as_slice() {
                 let inner = scope.saturating_add(sub.binders as u64).min(WIDEST);
                 if !in_wide_scope(&sub.body, inner) {
                     return false;
@@ -86,7 +86,7 @@ pub fn weigh(t: &Term) -> Weight
         Term::Op { subs, .. } => {
             let mut total = 1u64;
             let mut greatest = 0u64;
-            for sub in subs.as_slice() {
+            for sub in subs.get().as_slice() {
                 let inner = weigh(&sub.body);
                 total = total.saturating_add(inner.size);
                 greatest = greatest.max(inner.depth);
@@ -106,7 +106,7 @@ pub fn few_binders(t: &Term) -> bool
     match t {
         Term::Var(_) => true,
         Term::Op { subs, .. } => {
-            for sub in subs.as_slice() {
+            for sub in subs.get().as_slice() {
                 if sub.binders > MOST_BINDERS || !few_binders(&sub.body) {
                     return false;
                 }

@@ -3,7 +3,7 @@ use Rattle.std.specs.List.{AllByRecursion}
 use Rattle.mp_logic.specs.Trees.{EachLeaf}
 use Rattle.mp_strategy.specs.Evaluation.{eval_in}
 use Rattle.mp_logic.specs.Lists.{greatest}
-use Rattle.mp_strategy.specs.Laws.{depth_of}
+use Rattle.mp_strategy.specs.Laws.{tree_depth_of}
 use Rattle.mp_eval.specs.Kids.{on_kids}
 use Rattle.mp_eval.proofs.Leaves.{followed}
 use Rattle.mp_eval.proofs.evaluation.+evaluation.Given as goal
@@ -27,7 +27,7 @@ invariant-on_kids-loop-kid g l =
     record {
       same : followed (Ok l.done) (on_kids each l.fuel l.rest) ≡ on_kids each l.fuel l.fn.kids;
       good : AllByRecursion (EachLeaf (λ h. IsTrue (g.L.Logic.good l.problem.logic.now h))) l.rest;
-      depth : greatest (map depth_of l.rest) ≤ l.fuel;
+      depth : greatest (map tree_depth_of l.rest) ≤ l.fuel;
     }
 
 abbrev pub decreases-on_kids-loop-kid : goal.decreases-on_kids-loop-kid

@@ -1,6 +1,6 @@
 use Rattle.std.proofs.Common.{◌+◌, ◌-◌, ◌<◌, ◌≤◌, length, arith}
 use Rattle.mp_term.specs.declared.term.Term.{Var}
-use Rattle.mp_subst.proofs.ScopeLaws.{low_narrow, high_narrow}
+use Rattle.mp_subst.proofs.Replacing.{low_narrow, high_narrow}
 use Rattle.mp_subst.proofs.substitution.substitute_variable.Goals as goal
 
 pub weaken-requires-clause-narrow : goal.weaken-requires-clause-narrow
