@@ -7,15 +7,15 @@ use Rattle.mp_term.specs.declared.term.Param.{Param}
 use Rattle.mp_term.specs.declared.term.Term.{Term, Var, Op}
 use Rattle.mp_term.specs.declared.term.Bound.{Bound}
 use Rattle.mp_term.specs.Induction.{OfEachBody, each_term}
-use Rattle.mp_subst.specs.Subst.{occurs_in, any_true, under, sub_of, sub_bound_of, sub_each}
-use Rattle.mp_subst.proofs.Layers.{sub-Var, sub-Op, sub_bound-is, occurs_bound, occurs-Op}
-use Rattle.mp_subst.proofs.SubLaws.{under-under, under-low, under-high, under-none, length-under}
+use Rattle.mp_term.specs.Subst.{occurs_in, any_true, under, sub_of, sub_bound_of, sub_each}
+use Rattle.mp_term.proofs.Layers.{sub-Var, sub-Op, sub_bound-is, occurs_bound, occurs-Op}
+use Rattle.mp_term.proofs.SubLaws.{under-under, under-low, under-high, under-none, length-under}
 use Rattle.mp_schema.specs.declared.pattern.Pattern.{Pattern}
 use Rattle.mp_schema.specs.declared.pattern.Pattern as pat
 use Rattle.mp_schema.proofs.Layers.{inst-Meta}
 use Rattle.mp_schema.specs.Sequents.{Instance, Spot, ground_at, wide_of}
 use Rattle.mp_build.specs.Sites.{env_at, args_at, used_terms, made_at}
-use Rattle.mp_build.proofs.Grounds.{length-before}
+use Rattle.mp_schema.proofs.Rows.{wide-ground}
 use Rattle.mp_build.proofs.Used.{stands_first, stands_later, stands_here}
 
 abbrev pub AgreeingTerms : List Term → List Term → (ℕ → Bool) → Type 0
@@ -106,7 +106,7 @@ module _ (v : Instance) (l : Spot) (base : ℕ) (t : Term) where
       let fore : List Term = map Var (ground_at v l.pos cs) in
       let used : List Term = used_terms v l base t (wide_of v cs) args m in
       let all : List Term = args_at v l base args m in
-      let many : length fore ≡ wide_of v cs = length-map (ground_at v l.pos cs) Var ∙ length-before v l.pos cs in
+      let many : length fore ≡ wide_of v cs = length-map (ground_at v l.pos cs) Var ∙ wide-ground v l.pos cs in
       let long = length-used (wide_of v cs) args m in
       let both : length (fore ++ used) ≡ length (fore ++ all) = let one = length-append fore used in let two = length-append fore all in omega (arith, one, two, long) in
       let all_long : length (fore ++ used ++ aft) ≡ length (fore ++ all ++ aft) = let one = length-append (fore ++ used) aft in let two = length-append (fore ++ all) aft in omega (arith, one, two, both) in
@@ -117,7 +117,7 @@ module _ (v : Instance) (l : Spot) (base : ℕ) (t : Term) where
   pub used_behind : (cs : List Sym) (args : List Pattern) (m : ℕ) (fore all : List Term) → fore ≡ map Var (ground_at v l.pos cs) →
       all ≡ fore ++ used_terms v l base t (length fore) args m → all ≡ map Var (ground_at v l.pos cs) ++ used_terms v l base t (wide_of v cs) args m
   used_behind cs args m fore all is made =
-      let many : length fore ≡ wide_of v cs = rw is (length-map (ground_at v l.pos cs) Var ∙ length-before v l.pos cs) in
+      let many : length fore ≡ wide_of v cs = rw is (length-map (ground_at v l.pos cs) Var ∙ wide-ground v l.pos cs) in
       rw (many, is) at made
 
   -- a value's instance is made of them

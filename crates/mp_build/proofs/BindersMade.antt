@@ -11,8 +11,8 @@ use Rattle.mp_term.specs.declared.term.Term.{Term, Var}
 use Rattle.mp_term.specs.Terms.{all_true}
 use Rattle.mp_term.specs.Limits.{few_binders_of, sequent_few_binders_of}
 use Rattle.mp_term.proofs.Layers.{few_bound, few-Var, few-Op, few_bound-is}
-use Rattle.mp_subst.specs.Subst.{variables}
-use Rattle.mp_subst.proofs.BinderLaws.{few-sub}
+use Rattle.mp_term.specs.Subst.{variables}
+use Rattle.mp_term.proofs.BinderLaws.{few-sub}
 use Rattle.mp_schema.specs.declared.pattern.ParamPat.{ParamPat}
 use Rattle.mp_schema.specs.declared.pattern.Pattern.{Pattern}
 use Rattle.mp_schema.specs.declared.pattern.Pattern as pat

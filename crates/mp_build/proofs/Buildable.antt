@@ -1,18 +1,16 @@
 -- What building asks of a pattern, it asks of the pattern's parts; and what a substitution asks follows.
 use Rattle.std.proofs.Common.{◌≡◌, ℕ, ◌+◌, ◌-◌, ◌<◌, ◌≤◌, List, [], ◌∷◌, ◌++◌, length, map, get_or, drop, IsTrue, zero, suc, refl, ap, subst, inl, inr, ◌⊎◌, arith}
-use Rattle.std.specs.Prelude.{Bool, true, false, nat_eq}
+use Rattle.std.specs.Prelude.{Bool, true, false, nat_eq, if◌then◌else◌}
 use Rattle.std.proofs.lemmas.Bool.Decides.{nat_tests}
 use Rattle.std.proofs.lemmas.Grind.{common_steps}
-use Rattle.std.proofs.lemmas.List.{append_assoc}
-use Rattle.std.proofs.lemmas.List.{length_push}
-use Rattle.std.specs.Prelude.{if◌then◌else◌}
+use Rattle.std.proofs.lemmas.List.{append_assoc, length_push}
 use Rattle.mp_logic.specs.declared.sym.Sym.{Sym}
 use Rattle.mp_term.specs.declared.term.Term.{Term, Var}
 use Rattle.mp_term.specs.declared.term.Bound.{Bound}
 use Rattle.mp_term.specs.Terms.{in_scope_of}
-use Rattle.mp_subst.specs.Subst.{widest_of, occurs_in}
-use Rattle.mp_subst.proofs.SubLaws.{drop-at}
-use Rattle.mp_subst.proofs.ScopeLaws.{width_substituted}
+use Rattle.mp_term.specs.Subst.{widest_of, occurs_in}
+use Rattle.mp_term.proofs.SubLaws.{drop-at}
+use Rattle.mp_term.proofs.Laws.{width_after_substitution}
 use Rattle.mp_schema.specs.declared.pattern.Pattern.{Pattern}
 use Rattle.mp_schema.specs.declared.pattern.Pattern as pat
 use Rattle.mp_schema.specs.declared.pattern.PBound.{PBound}
@@ -159,7 +157,7 @@ module _ (v : Instance) (l : Spot) (base : ℕ) where
       let many : length terms ≡ wide_of v cs + length args = rw e placed.2 in
       let scoped : IsTrue (in_scope_of (v.values.meta n) (length terms)) = rw many f0 in
       let wide = rw (← e) at placed.1 in
-      let grown = width_substituted terms m (v.values.meta n) scoped in
+      let grown = width_after_substitution terms m (v.values.meta n) scoped in
       let own = widest-ge (v.values.meta n) (wide_of v cs + length args) in
       let own' : widest_of (v.values.meta n) (length terms) ≡ widest_of (v.values.meta n) (wide_of v cs + length args) = rw many refl in
       record {

@@ -9,15 +9,15 @@ use Rattle.std.proofs.lemmas.List.Elements.{All-append}
 use Rattle.mp_logic.specs.declared.sym.Sym.{Sym}
 use Rattle.mp_term.specs.declared.term.Term.{Term, Var}
 use Rattle.mp_term.specs.Terms.{in_scope_of}
-use Rattle.mp_term.proofs.Layers.{in_scope-Var}
-use Rattle.mp_subst.specs.Subst.{variables, AreInScope, widest_of, widest_in}
-use Rattle.mp_subst.proofs.Layers.{widest-Var}
-use Rattle.mp_subst.proofs.SubLaws.{get_or-variables, variables-append}
+use Rattle.mp_term.proofs.Layers.{in_scope-Var, widest-Var}
+use Rattle.mp_term.specs.Subst.{variables, AreInScope, widest_of, widest_in}
+use Rattle.mp_term.proofs.SubLaws.{get_or-variables, variables-append}
 use Rattle.mp_schema.specs.Instances.{upto}
 use Rattle.mp_schema.specs.Sequents.{Instance, Spot, ground_at, wide_of}
 use Rattle.mp_logic.specs.Lists.{joined}
 use Rattle.mp_schema.specs.Conditions.{has, has_all}
 use Rattle.mp_build.specs.Sites.{IsSpot, env_at}
+use Rattle.mp_schema.proofs.Ranges.{upto-next}
 
 pub AreInScope-none : (m : ℕ) → AreInScope m []
 unfolding AreInScope
@@ -42,10 +42,6 @@ pub widest_in-cons : (m : ℕ) (t : Term) (ts : List Term) → widest_in m (t �
 unfolding widest_in
 widest_in-cons m t ts = refl
 
-pub length-upto : (m k : ℕ) → length (upto m k) ≡ k
-length-upto m zero = refl
-length-upto m (suc k) = omega (arith, length-upto (suc m) k)
-
 pub variables-are : (m k : ℕ) → variables m k ≡ map Var (upto m k)
 variables-are m zero = refl
 variables-are m (suc k) = ap (λ vs. Var m ∷ vs) (variables-are (suc m) k)
@@ -66,21 +62,6 @@ module _ (v : Instance) (pos : Sym → ℕ) where
   -- the variables of a context
   abbrev range : Sym → List ℕ
   range c = upto (pos c) (length (v.kept c))
-
-  length-joined : (cs : List Sym) → length (joined (map range cs)) ≡ sum (map (λ c. length (v.kept c)) cs)
-  length-joined [] = refl
-  length-joined (c ∷ cs) =
-      let first = length-upto (pos c) (length (v.kept c)) in
-      let rest = length-joined cs in
-      let both = length-append (range c) (joined (map range cs)) in
-      grind (arith, common_steps, first, rest, both)
-
-  pub length-before : (cs : List Sym) → length (ground_at v pos cs) ≡ wide_of v cs
-  length-before cs =
-      let first = length-upto 0 v.ambient in
-      let rest = length-joined cs in
-      let both = length-append (upto 0 v.ambient) (joined (map range cs)) in
-      omega (arith, first, rest, both)
 
   module _ (known : List Sym) (m : ℕ) (made : (c : Sym) → IsTrue (has known c) → pos c + length (v.kept c) ≤ m) where
     joined-in : (cs : List Sym) → IsTrue (has_all known cs) → AreInScope m (map Var (joined (map range cs)))
@@ -124,13 +105,6 @@ env-at v l known base m i spot outer inner h = elim (cases_lt i (length l.env)) 
       (get_or l.env i 0, omega arith, λ d. env-named l base m i d 0 low)
   | inr high ↦ (base + (i - length l.env), omega arith, λ d. env-bound l base m i d high h)
 ]
-
-pub upto-next : (m k : ℕ) → upto m (k + 1) ≡ upto m k ++ (m + k) ∷ []
-upto-next m zero = grind arith
-upto-next m (suc k) =
-    let e : suc k + 1 ≡ suc (k + 1) = omega arith in
-    let e' : m + suc k ≡ suc m + k = omega arith in
-    rw (e, e') (ap (λ xs. m ∷ xs) (upto-next (suc m) k))
 
 -- one variable more
 pub pushed_variable : (terms made more : List Term) (first level : ℕ) → first ≤ level → made ≡ terms ++ map Var (upto first (level - first)) →

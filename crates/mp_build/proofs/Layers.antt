@@ -3,8 +3,8 @@ use Rattle.std.proofs.Common.{◌≡◌, ℕ, ◌+◌, List, length, map, max, s
 use Rattle.std.proofs.lemmas.List.{length-map}
 use Rattle.mp_logic.specs.declared.sym.Sym.{Sym}
 use Rattle.mp_logic.specs.Lists.{greatest}
-use Rattle.mp_subst.specs.Subst.{widest_of, widest_at}
-use Rattle.mp_subst.specs.Sizes.{sub_size, sub_depth}
+use Rattle.mp_term.specs.Subst.{widest_of, widest_at}
+use Rattle.mp_term.specs.Sizes.{sub_size, sub_depth}
 use Rattle.mp_schema.specs.declared.pattern.ParamPat.{ParamPat}
 use Rattle.mp_schema.specs.declared.pattern.Pattern.{Pattern, the_lemmas}
 use Rattle.mp_schema.specs.declared.pattern.Pattern as pat

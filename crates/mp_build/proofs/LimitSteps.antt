@@ -6,9 +6,9 @@ use Rattle.std.proofs.lemmas.List.{map-append, get_or-map}
 use Rattle.mp_term.specs.declared.measure.Weight.{Weight}
 use Rattle.mp_term.specs.declared.term.Term.{Term}
 use Rattle.mp_logic.specs.Lists.{greatest}
-use Rattle.mp_subst.specs.Subst.{occurs_in}
-use Rattle.mp_subst.specs.Sizes.{sub_size, sub_depth}
-use Rattle.mp_subst.proofs.SubLaws.{drop-at}
+use Rattle.mp_term.specs.Subst.{occurs_in}
+use Rattle.mp_term.specs.Sizes.{sub_size, sub_depth}
+use Rattle.mp_term.proofs.SubLaws.{drop-at}
 use Rattle.mp_schema.specs.declared.pattern.Pattern.{Pattern}
 use Rattle.mp_schema.specs.declared.pattern.PBound.{PBound}
 use Rattle.mp_schema.specs.Instances.{Values, Wide}

@@ -8,8 +8,8 @@ use Rattle.mp_logic.specs.declared.sym.Sym.{Sym}
 use Rattle.mp_term.specs.declared.term.Term.{Term, Var}
 use Rattle.mp_logic.specs.Lists.{greatest}
 use Rattle.mp_term.proofs.Layers.{few-Var, depth-Var}
-use Rattle.mp_subst.specs.Subst.{widest_of, widest_at}
-use Rattle.mp_subst.proofs.BinderLaws.{width_few}
+use Rattle.mp_term.specs.Subst.{widest_of, widest_at}
+use Rattle.mp_term.proofs.Laws.{width_of_few_binders}
 use Rattle.mp_schema.specs.declared.instance.CtxVal.{CtxVal}
 use Rattle.mp_schema.specs.declared.instance.MetaVal.{MetaVal}
 use Rattle.mp_schema.specs.declared.instance.Inst.{Inst}
@@ -33,7 +33,7 @@ use Rattle.mp_build.proofs.LimitLayers.{few_of-Op, few_of-Meta, few_of_bound-is,
 
 -- a tame term widens its scope by 1600 at most
 tame-width : (t : Term) (n : ℕ) → IsTameTerm t → widest_of t n ≤ n + 1600
-tame-width t n tame = let shallow = tame.shallow in let w = width_few t n tame.few in omega (arith, w)
+tame-width t n tame = let shallow = tame.shallow in let w = width_of_few_binders t n tame.few in omega (arith, w)
 
 module _ (v : Instance) (tame : IsTame v) where
   sum-few : (cs : List Sym) → sum (map (λ c. length (v.kept c)) cs) ≤ 200 * length cs

@@ -6,10 +6,9 @@ use Rattle.std.proofs.lemmas.List.{length-map, length-append}
 use Rattle.mp_logic.specs.declared.sym.Sym.{Sym}
 use Rattle.mp_term.specs.declared.term.Term.{Term, Var}
 use Rattle.mp_term.specs.Terms.{in_scope_of, all_at_scope}
-use Rattle.mp_term.proofs.Layers.{scoped_bound, in_scope-Var, in_scope-Op, scoped_bound-is}
-use Rattle.mp_subst.specs.Subst.{AreInScope, widest_of, widest_at, width_bound, widest_in}
-use Rattle.mp_subst.proofs.Layers.{widest-Var, widest-Op, width_bound-is}
-use Rattle.mp_subst.proofs.ScopeLaws.{scope_substituted, width_substituted}
+use Rattle.mp_term.proofs.Layers.{scoped_bound, in_scope-Var, in_scope-Op, scoped_bound-is, widest-Var, widest-Op, width_bound-is}
+use Rattle.mp_term.specs.Subst.{AreInScope, widest_of, widest_at, width_bound, widest_in, occurs_in}
+use Rattle.mp_term.proofs.Laws.{scope_after_substitution, width_after_substitution}
 use Rattle.mp_schema.specs.declared.pattern.ParamPat.{ParamPat}
 use Rattle.mp_schema.specs.declared.pattern.Pattern.{Pattern}
 use Rattle.mp_schema.specs.declared.pattern.Pattern as pat
@@ -23,9 +22,9 @@ use Rattle.mp_build.specs.Rooms.{room, room_bound}
 use Rattle.mp_build.specs.Sites.{IsSpot, env_at, made_at, bodies_at, args_at, used_terms, the_blank}
 use Rattle.mp_build.proofs.RoomFacts.{widest_at-ge}
 use Rattle.std.specs.Prelude.{Bool, true, false, if◌then◌else◌}
-use Rattle.mp_subst.specs.Subst.{occurs_in}
 use Rattle.mp_build.proofs.Layers.{room-Var, room-Op, room-Meta, room_bound-is}
-use Rattle.mp_build.proofs.Grounds.{AreInScope-none, AreInScope-join, AreInScope-cons, widest_in-none, widest_in-cons, widest_in-levels, length-before, before-in, env-under, env-at}
+use Rattle.mp_build.proofs.Grounds.{AreInScope-none, AreInScope-join, AreInScope-cons, widest_in-none, widest_in-cons, widest_in-levels, before-in, env-under, env-at}
+use Rattle.mp_schema.proofs.Rows.{wide-ground}
 
 -- terms in scope m, one for each argument, with no scope wider than the arguments' room
 abbrev pub AreRoomed : Instance → List Term → List Pattern → ℕ → Type 0
@@ -127,7 +126,7 @@ module _ (v : Instance) (l : Spot) (base : ℕ) where
         (length (map Var (ground_at v l.pos cs) ++ made) ≡ wide_of v cs + length args)
     terms_placed cs made args m le listed r =
         let many = r.2 in
-        let own = length-before v l.pos cs in
+        let own = wide-ground v l.pos cs in
         let ambient = spot.ambient in
         let below_m : (c : Sym) → IsTrue _ → l.pos c + length (v.kept c) ≤ m = λ c h. (let made = spot.made c h in omega arith) in (
           AreInScope-join m _ _ (before-in v l.pos known m below_m cs (omega arith) listed) r.0,
@@ -147,8 +146,8 @@ module _ (v : Instance) (l : Spot) (base : ℕ) where
         let by : List Term = map Var (ground_at v l.pos cs) ++ args_at v l base args m in
         let many : length by ≡ wide_of v cs + length args = terms.2 in
         let f0' : IsTrue (in_scope_of (v.values.meta n) (length by)) = rw many f0 in
-        let one = scope_substituted by m (v.values.meta n) terms.0 f0' in
-        let two = rw many at (width_substituted by m (v.values.meta n) f0') in
+        let one = scope_after_substitution by m (v.values.meta n) terms.0 f0' in
+        let two = rw many at (width_after_substitution by m (v.values.meta n) f0') in
         let wide = terms.1 in
         (rw inst-Meta one, rw (inst-Meta, room-Meta) (omega (arith, two, wide)))
 

@@ -3,9 +3,9 @@ use Rattle.std.proofs.Common.{◌≡◌, ℕ, ◌+◌, ◌<◌, ◌≤◌, ◌^�
 use Rattle.mp_logic.specs.declared.sym.Sym.{Sym}
 use Rattle.mp_term.specs.declared.term.Term.{Term}
 use Rattle.mp_term.specs.Induction.{each_term}
-use Rattle.mp_subst.specs.Subst.{Widths, widest_of, widest_at, width_bound}
-use Rattle.mp_subst.proofs.Layers.{widest-Var, widest-Op}
-use Rattle.mp_subst.proofs.SubLaws.{drop-at}
+use Rattle.mp_term.specs.Subst.{Widths, widest_of, widest_at, width_bound}
+use Rattle.mp_term.proofs.Layers.{widest-Var, widest-Op}
+use Rattle.mp_term.proofs.SubLaws.{drop-at}
 use Rattle.mp_schema.specs.declared.pattern.Pattern.{Pattern}
 use Rattle.mp_schema.specs.declared.pattern.Pattern as pat
 use Rattle.mp_schema.specs.declared.pattern.ParamPat.{ParamPat}

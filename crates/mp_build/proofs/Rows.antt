@@ -6,10 +6,10 @@ use Rattle.mp_logic.specs.declared.sym.Sym.{Sym}
 use Rattle.mp_term.specs.declared.term.Term.{Term, Var}
 use Rattle.mp_term.specs.Terms.{in_scope_of}
 use Rattle.mp_term.specs.Limits.{in_scopes_from}
-use Rattle.mp_subst.specs.Subst.{variables, AreInScope, widest_of, widest_at, widest_in}
-use Rattle.mp_subst.proofs.Layers.{widest-Var}
-use Rattle.mp_subst.proofs.SubLaws.{drop-at, widest_in-ge}
-use Rattle.mp_subst.proofs.ScopeLaws.{width_substituted}
+use Rattle.mp_term.specs.Subst.{variables, AreInScope, widest_of, widest_at, widest_in}
+use Rattle.mp_term.proofs.Layers.{widest-Var}
+use Rattle.mp_term.proofs.SubLaws.{drop-at, widest_in-ge}
+use Rattle.mp_term.proofs.Laws.{width_after_substitution}
 use Rattle.mp_schema.specs.declared.pattern.Pattern.{Pattern}
 use Rattle.mp_schema.specs.Instances.{inst_of, made_each, upto}
 use Rattle.mp_schema.specs.Sequents.{Instance, Spot, ground_at, wide_of, telescope}
@@ -17,7 +17,8 @@ use Rattle.mp_schema.specs.Conditions.{has, has_all}
 use Rattle.mp_build.specs.Rooms.{room, telescope_room}
 use Rattle.mp_build.specs.Sites.{IsSpot, IsRowBuildable, IsSubstitutable, AreBuildableArgs, args_at, used_terms, kept_at}
 use Rattle.mp_build.proofs.Buildable.{known-of}
-use Rattle.mp_build.proofs.Grounds.{AreInScope-join, widest_in-none, widest_in-cons, variables-are, length-upto, upto-in}
+use Rattle.mp_build.proofs.Grounds.{AreInScope-join, widest_in-none, widest_in-cons, variables-are, upto-in}
+use Rattle.mp_schema.proofs.Ranges.{length-upto}
 use Rattle.mp_build.proofs.Placed.{AreRoomed, terms_placed, used-placed, widest_at-least}
 use Rattle.mp_build.proofs.RoomFacts.{widest-ge}
 use Rattle.mp_build.proofs.TermFacts.{env-here}
@@ -115,7 +116,7 @@ module _ (v : Instance) (l : Spot) (cs : List Sym) (args : List Pattern) where
       let in_row = r.scoped in
       let scoped : IsTrue (in_scope_of t (wide_of v cs + length args + j)) = grind (arith, common_steps, in_row) in
       let scoped' : IsTrue (in_scope_of t (length terms)) = rw count scoped in
-      let grown = width_substituted terms (l.next + j) t scoped' in
+      let grown = width_after_substitution terms (l.next + j) t scoped' in
       let narrow = r.narrow in
       let wide : widest_of t (length terms) ≡ widest_of t (wide_of v cs + length args + j) = rw count refl in
       let ge = widest-ge t (wide_of v cs + length args + j) in

@@ -7,7 +7,7 @@ use Rattle.mp_logic.specs.declared.sym.Sym.{Sym}
 use Rattle.mp_term.specs.declared.term.Term.{Term, Var}
 use Rattle.mp_term.specs.Terms.{in_scope_of, all_at_scope}
 use Rattle.mp_term.specs.Limits.{in_scopes_from, sequent_in_scope_of}
-use Rattle.mp_subst.proofs.ScopeLaws.{scope_substituted}
+use Rattle.mp_term.proofs.Laws.{scope_after_substitution}
 use Rattle.mp_schema.specs.declared.pattern.Pattern.{Pattern}
 use Rattle.mp_schema.specs.declared.schema.Item.{Item}
 use Rattle.mp_schema.specs.declared.schema.Item.TheVariants.{Ctx, Hyp}
@@ -50,7 +50,7 @@ module _ (v : Instance) where
         let e : wide_of v cs + length args + j + 1 ≡ wide_of v cs + length args + suc j = omega arith in
         let e' : l.next + suc j ≡ l.next + j + 1 = omega arith in
         let later = rw e' at (telescope-in (suc j) ts (rw e at rest)) in
-        let made = scope_substituted terms (l.next + j) t placed.0 (rw placed.2 first) in
+        let made = scope_after_substitution terms (l.next + j) t placed.0 (rw placed.2 first) in
         let here = rw (row-terms v l cs args j terms refl) at made in
         grind (arith, common_steps, here, later)
 

@@ -11,9 +11,9 @@ use Rattle.mp_term.specs.declared.term.Term.{Term, Var}
 use Rattle.mp_term.specs.Terms.{size_of, depth_of}
 use Rattle.mp_logic.specs.Lists.{greatest}
 use Rattle.mp_term.specs.Limits.{is_shallow, within_limits_of}
-use Rattle.mp_subst.specs.Subst.{variables, sub_of}
-use Rattle.mp_subst.specs.Sizes.{sub_size, sub_depth}
-use Rattle.mp_subst.proofs.SizeLaws.{size-sub, depth-sub}
+use Rattle.mp_term.specs.Subst.{variables, sub_of}
+use Rattle.mp_term.specs.Sizes.{sub_size, sub_depth}
+use Rattle.mp_term.proofs.SizeLaws.{size-sub, depth-sub}
 use Rattle.mp_schema.specs.declared.pattern.Pattern.{Pattern}
 use Rattle.mp_schema.specs.declared.schema.Item.{Item}
 use Rattle.mp_schema.specs.declared.schema.Item.TheVariants.{Ctx, Hyp}
@@ -24,7 +24,9 @@ use Rattle.mp_build.specs.declared.error.BuildErr.{BuildErr}
 use Rattle.mp_build.specs.declared.error.BuildErr.TheVariants.{TooLarge, NoMemory}
 use Rattle.mp_build.specs.Built.{IsChecked}
 use Rattle.mp_build.specs.Sizes.{behind_ones, IsWeighing, inst_size, inst_depth, item_count, item_size, item_depth, schema_count, schema_size, schema_depth}
-use Rattle.mp_build.proofs.Grounds.{length-before, length-upto, variables-are}
+use Rattle.mp_build.proofs.Grounds.{variables-are}
+use Rattle.mp_schema.proofs.Rows.{wide-ground}
+use Rattle.mp_schema.proofs.Ranges.{length-upto}
 use Rattle.mp_build.proofs.Used.{same_size, same_depth}
 use Rattle.mp_build.proofs.Weighed.{size-inst, depth-inst, sizes-terms, depths-terms, sizes-levels, depths-levels}
 
@@ -43,13 +45,13 @@ module _ (v : Instance) where
 
     sizes-row : (j : ℕ) → map size_of (terms j) ≡ behind_ones (wide_of v cs) (map (inst_size (wide_of v) v.values) args) ++ replicate j 1
     sizes-row j =
-        let fore = sizes-terms (ground_at v l.pos) (wide_of v) (length-before v l.pos) v.values cs args l.env (l.next + j) in
+        let fore = sizes-terms (ground_at v l.pos) (wide_of v) (wide-ground v l.pos) v.values cs args l.env (l.next + j) in
         let aft : map size_of (variables l.next j) ≡ replicate j 1 = rw (variables-are, sizes-levels, length-upto) refl in
         rw (map-append size_of (map Var (ground_at v l.pos cs) ++ made_each (map (inst_of (ground_at v l.pos) v.values) args) (map Var l.env) (l.next + j)) (variables l.next j), fore, aft) refl
 
     depths-row : (j : ℕ) → map depth_of (terms j) ≡ behind_ones (wide_of v cs) (map (inst_depth (wide_of v) v.values) args) ++ replicate j 1
     depths-row j =
-        let fore = depths-terms (ground_at v l.pos) (wide_of v) (length-before v l.pos) v.values cs args l.env (l.next + j) in
+        let fore = depths-terms (ground_at v l.pos) (wide_of v) (wide-ground v l.pos) v.values cs args l.env (l.next + j) in
         let aft : map depth_of (variables l.next j) ≡ replicate j 1 = rw (variables-are, depths-levels, length-upto) refl in
         rw (map-append depth_of (map Var (ground_at v l.pos cs) ++ made_each (map (inst_of (ground_at v l.pos) v.values) args) (map Var l.env) (l.next + j)) (variables l.next j), fore, aft) refl
 
@@ -80,13 +82,13 @@ module _ (v : Instance) where
 
   size-item : (i : Item) (l : Spot) → sum_by size_of (hyps_of v i l) ≡ item_size v i
   size-item (Hyp p) l =
-      let e = size-inst (ground_at v l.pos) (wide_of v) (length-before v l.pos) v.values p l.env l.next in
+      let e = size-inst (ground_at v l.pos) (wide_of v) (wide-ground v l.pos) v.values p l.env l.next in
       grind (arith, common_steps, e)
   size-item (Ctx n cs args) l = size-telescope l cs args 0 (v.kept n)
 
   depth-item : (i : Item) (l : Spot) → greatest (map depth_of (hyps_of v i l)) ≡ item_depth v i
   depth-item (Hyp p) l =
-      let e = depth-inst (ground_at v l.pos) (wide_of v) (length-before v l.pos) v.values p l.env l.next in
+      let e = depth-inst (ground_at v l.pos) (wide_of v) (wide-ground v l.pos) v.values p l.env l.next in
       rw e (omega arith)
   depth-item (Ctx n cs args) l = depth-telescope l cs args 0 (v.kept n)
 
@@ -133,8 +135,8 @@ module _ (v : Instance) where
       let many = length-hyps s.items first_spot in
       let sizes = size-hyps s.items first_spot in
       let depths = depth-hyps s.items first_spot in
-      let size = size-inst (ground_at v end.pos) (wide_of v) (length-before v end.pos) v.values s.concl end.env end.next in
-      let depth = depth-inst (ground_at v end.pos) (wide_of v) (length-before v end.pos) v.values s.concl end.env end.next in
+      let size = size-inst (ground_at v end.pos) (wide_of v) (wide-ground v end.pos) v.values s.concl end.env end.next in
+      let depth = depth-inst (ground_at v end.pos) (wide_of v) (wide-ground v end.pos) v.values s.concl end.env end.next in
       let shallow = all_shallow-is (hyps_from v s.items first_spot) in
       rw (shallow, many, sizes, depths, size, depth, le-max) (
       inner_and (nat_le (schema_count v s) 200) (nat_le (greatest (map (item_depth v) s.items)) 200) (nat_le (inst_depth (wide_of v) v.values s.concl) 200) (nat_le (schema_size v s) 20000)

@@ -12,15 +12,15 @@ use Rattle.mp_build.specs.declared.error.BuildErr.TheVariants.{TooLarge, NoMemor
 use Rattle.mp_build.specs.Built.{term_of, is_small_term, IsBuiltTerm}
 use Rattle.mp_build.specs.Sites.{env_at}
 use Rattle.mp_build.specs.Sizes.{inst_size, inst_depth, IsOver, IsWeighing}
-use Rattle.mp_build.proofs.Grounds.{length-before}
+use Rattle.mp_schema.proofs.Rows.{wide-ground}
 use Rattle.mp_build.proofs.Weighed.{size-inst, depth-inst}
 
 module _ (v : Instance) (p : Pattern) where
   size-term : size_of (term_of v p) ≡ inst_size (wide_of v) v.values p
-  size-term = size-inst (ground_at v (λ c. 0)) (wide_of v) (length-before v (λ c. 0)) v.values p [] v.ambient
+  size-term = size-inst (ground_at v (λ c. 0)) (wide_of v) (wide-ground v (λ c. 0)) v.values p [] v.ambient
 
   depth-term : depth_of (term_of v p) ≡ inst_depth (wide_of v) v.values p
-  depth-term = depth-inst (ground_at v (λ c. 0)) (wide_of v) (length-before v (λ c. 0)) v.values p [] v.ambient
+  depth-term = depth-inst (ground_at v (λ c. 0)) (wide_of v) (wide-ground v (λ c. 0)) v.values p [] v.ambient
 
   pub small : inst_size (wide_of v) v.values p ≤ 20000 → inst_depth (wide_of v) v.values p ≤ 200 → IsTrue (is_small_term (term_of v p))
   small h h' =

@@ -8,9 +8,9 @@ use Rattle.mp_term.specs.declared.term.Term.{Term, Var, Op}
 use Rattle.mp_term.specs.declared.term.Bound.{Bound}
 use Rattle.mp_term.specs.Induction.{OfEachBody, each_term}
 use Rattle.mp_logic.specs.Lists.{greatest}
-use Rattle.mp_subst.specs.Subst.{occurs_in, any_true}
-use Rattle.mp_subst.specs.Sizes.{sub_size, sub_size_bound, sub_depth, sub_depth_bound}
-use Rattle.mp_subst.proofs.Layers.{sub_size-Var, sub_size-Op, sub_size_bound-is, sub_depth-Var, sub_depth-Op, sub_depth_bound-is, occurs_bound, occurs-Var, occurs-Op, occurs_bound-is}
+use Rattle.mp_term.specs.Subst.{occurs_in, any_true}
+use Rattle.mp_term.specs.Sizes.{sub_size, sub_size_bound, sub_depth, sub_depth_bound}
+use Rattle.mp_term.proofs.Layers.{sub_size-Var, sub_size-Op, sub_size_bound-is, sub_depth-Var, sub_depth-Op, sub_depth_bound-is, occurs_bound, occurs-Var, occurs-Op, occurs_bound-is}
 use Rattle.mp_schema.specs.declared.pattern.Pattern.{Pattern}
 use Rattle.mp_build.specs.Sizes.{behind_ones, used_from}
 

@@ -7,8 +7,8 @@ use Rattle.mp_term.specs.declared.term.Term.{Var}
 use Rattle.mp_term.specs.Terms.{size_of, depth_of}
 use Rattle.mp_logic.specs.Lists.{greatest}
 use Rattle.mp_term.proofs.Layers.{size_bound, size-Var, size-Op, size_bound-is, depth_bound, depth-Var, depth-Op, depth_bound-is}
-use Rattle.mp_subst.specs.Subst.{variables}
-use Rattle.mp_subst.proofs.SizeLaws.{size-sub, depth-sub}
+use Rattle.mp_term.specs.Subst.{variables}
+use Rattle.mp_term.proofs.SizeLaws.{size-sub, depth-sub}
 use Rattle.mp_schema.specs.declared.pattern.ParamPat.{ParamPat}
 use Rattle.mp_schema.specs.declared.pattern.Pattern.{Pattern}
 use Rattle.mp_schema.specs.declared.pattern.Pattern as pat

@@ -2,7 +2,7 @@
 use Rattle.std.specs.Prelude.{ℕ, ◌+◌, ◌^◌, ◌<◌, suc, List, [], ◌∷◌, map, length, max}
 use Rattle.mp_logic.specs.declared.sym.Sym.{Sym}
 use Rattle.mp_term.specs.declared.term.Term.{Term}
-use Rattle.mp_subst.specs.Subst.{widest_of, Widths, widest_at}
+use Rattle.mp_term.specs.Subst.{widest_of, Widths, widest_at}
 use Rattle.mp_schema.specs.declared.pattern.Pattern.{Pattern, Pattern-F}
 use Rattle.mp_schema.specs.declared.pattern.PBound.{PBound, PBound-F}
 use Rattle.mp_schema.specs.declared.pattern.Pattern.TheOpen as layer

@@ -6,7 +6,7 @@ use Rattle.mp_term.specs.declared.term.Term.{Term, Var, Op}
 use Rattle.mp_term.specs.declared.term.Bound.{Bound}
 use Rattle.mp_term.specs.Terms.{in_scope_of, all_at_scope}
 use Rattle.mp_term.specs.Limits.{in_scopes_from}
-use Rattle.mp_subst.specs.Subst.{occurs_in, variables, sub_of, AreInScope, widest_of, widest_at}
+use Rattle.mp_term.specs.Subst.{occurs_in, variables, sub_of, AreInScope, widest_of, widest_at}
 use Rattle.mp_schema.specs.declared.pattern.Pattern.{Pattern}
 use Rattle.mp_schema.specs.declared.pattern.PBound.{PBound}
 use Rattle.mp_schema.specs.Instances.{inst_of, inst_bound, made_each, fits, fits_bound, all_pass}

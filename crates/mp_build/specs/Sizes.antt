@@ -5,8 +5,8 @@ use Rattle.mp_logic.specs.declared.sym.Sym.{Sym}
 use Rattle.mp_term.specs.declared.measure.Weight.{Weight}
 use Rattle.mp_term.specs.declared.term.Term.{Term}
 use Rattle.mp_logic.specs.Lists.{greatest}
-use Rattle.mp_subst.specs.Subst.{occurs_in}
-use Rattle.mp_subst.specs.Sizes.{sub_size, sub_depth}
+use Rattle.mp_term.specs.Subst.{occurs_in}
+use Rattle.mp_term.specs.Sizes.{sub_size, sub_depth}
 use Rattle.mp_schema.specs.declared.pattern.Pattern.{Pattern, Pattern-F}
 use Rattle.mp_schema.specs.declared.pattern.PBound.{PBound, PBound-F}
 use Rattle.mp_schema.specs.declared.pattern.Pattern.TheOpen as layer

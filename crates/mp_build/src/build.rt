@@ -1,6 +1,6 @@
 ghost use Rattle.std.specs.Prelude.{◌≡◌, ℕ, ◌+◌, ◌-◌, ◌<◌, ◌≤◌, ◌^◌, ◌++◌, map, length, IsTrue, IfOk, OnOk, slice_index_or};
 ghost use Rattle.mp_term.specs.declared.term.Term.{Var};
-ghost use Rattle.mp_subst.specs.Subst.{sub_of};
+ghost use Rattle.mp_term.specs.Subst.{sub_of};
 ghost use Rattle.mp_schema.specs.Instances.{param_of, upto};
 ghost use Rattle.mp_schema.specs.Sequents.{ground_at, wide_of};
 ghost use Rattle.mp_schema.specs.Values.{instance_of, kept_of};
@@ -11,7 +11,7 @@ ghost use Rattle.mp_build.specs.Sites.{spot_of, start_of, env_at, made_at, bodie
 use crate::site::{Site, Span, Start};
 use crate::values::kept_count;
 use crate::weights::occurs;
-use mp_logic::{List, NoMemory, Sym};
+use mp_logic::{List, NoMemory, Shared, Sym};
 use mp_schema::{Inst, PBound, ParamPat, Pattern, meta_value, param_value};
 use mp_subst::substitute;
 use mp_term::{Bound, Param, Term};
@@ -116,6 +116,7 @@ pub(crate) fn build_within(
         Pattern::Op { op, params, subs } => {
             let params = build_params(alloc, params.as_slice(), inst)?;
             let subs = build_bodies(alloc, subs.as_slice(), inst, site, span)?;
+            let subs = Shared::new(alloc, subs)?;
             Ok(Term::Op {
                 op: *op,
                 params,
@@ -181,7 +182,7 @@ pub(crate) fn push_args(
         let made = if occurs(t, terms.len() as u64) {
             build_within(alloc, arg, inst, site, span)?
         } else {
-            blank(alloc)
+            blank(alloc)?
         };
         if terms.push(made).is_err() {
             return Err(NoMemory);
@@ -191,14 +192,15 @@ pub(crate) fn push_args(
 }
 
 // A term that is in every scope.
-fn blank(alloc: Global) -> Term
-    ensures { result ≡ the_blank }
+fn blank(alloc: Global) -> Result<Term, NoMemory>
+    ensures { IfOk result (λ t. t ≡ the_blank) }
 {
-    Term::Op {
+    let subs = Shared::new(alloc, List::new(alloc))?;
+    Ok(Term::Op {
         op: Sym(0),
         params: List::new(alloc),
-        subs: List::new(alloc),
-    }
+        subs,
+    })
 }
 
 // The second-order variable's value, or this term where it has none.

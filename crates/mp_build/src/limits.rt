@@ -2,7 +2,7 @@ ghost use Rattle.std.specs.Prelude.{◌≡◌, ◌+◌, ◌<◌, ◌^◌, max, m
 ghost use Rattle.mp_logic.specs.Trees.{counted};
 ghost use Rattle.mp_logic.specs.Lists.{greatest};
 ghost use Rattle.mp_term.specs.Limits.{within_limits_of};
-ghost use Rattle.mp_subst.specs.Subst.{widest_at};
+ghost use Rattle.mp_term.specs.Subst.{widest_at};
 ghost use Rattle.mp_schema.specs.Sequents.{seq, wide_of};
 ghost use Rattle.mp_schema.specs.Values.{instance_of};
 ghost use Rattle.mp_build.specs.Built.{IsChecked};

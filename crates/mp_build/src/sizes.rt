@@ -1,5 +1,5 @@
 ghost use Rattle.std.specs.Prelude.{◌≡◌, ◌<◌, ◌^◌, map, IfOk, OnErr};
-ghost use Rattle.mp_subst.specs.Subst.{widest_at};
+ghost use Rattle.mp_term.specs.Subst.{widest_at};
 ghost use Rattle.mp_schema.specs.Sequents.{wide_of};
 ghost use Rattle.mp_schema.specs.Values.{instance_of};
 ghost use Rattle.mp_build.specs.Rooms.{room, IsNarrowSomewhere};

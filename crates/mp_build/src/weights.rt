@@ -1,6 +1,6 @@
 ghost use Rattle.std.specs.Prelude.{◌≡◌, map, slice_index_or};
-ghost use Rattle.mp_subst.specs.Sizes.{sub_size, sub_depth};
-ghost use Rattle.mp_subst.specs.Subst.{occurs_in};
+ghost use Rattle.mp_term.specs.Sizes.{sub_size, sub_depth};
+ghost use Rattle.mp_term.specs.Subst.{occurs_in};
 ghost use Rattle.mp_build.specs.Sizes.{behind_ones, IsWeighed};
 
 use mp_term::limits::{MOST_DEPTH, MOST_NODES};
@@ -28,7 +28,7 @@ pub(crate) fn weigh_under(t: &Term, before: u64, args: &[Weight]) -> Option<Weig
         }
         Term::Op { subs, .. } => {
             let mut total = Weight { size: 1, depth: 1 };
-            for sub in subs.as_slice() {
+            for sub in subs.get().as_slice() {
                 let inner = weigh_under(&sub.body, before, args)?;
                 total = limited(total.size + inner.size, total.depth.max(inner.depth + 1))?;
             }
@@ -59,7 +59,7 @@ pub(crate) fn occurs(t: &Term, level: u64) -> bool
     match t {
         Term::Var(other) => *other as u64 == level,
         Term::Op { subs, .. } => {
-            for sub in subs.as_slice() {
+            for sub in subs.get().as_slice() {
                 if occurs(&sub.body, level) {
                     return true;
                 }

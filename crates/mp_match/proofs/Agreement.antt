@@ -1,10 +1,10 @@
 -- Instances that have the same values make the same terms and sequents.
-use Rattle.std.proofs.Common.{◌≡◌, ℕ, ◌+◌, List, [], ◌∷◌, ◌++◌, length, map, suc, Bool, true, ◌&&◌, nat_eq, not, IsTrue, Option, Some, None, inl, inr, refl, sym, ap, ◌∙◌}
+use Rattle.std.proofs.Common.{◌≡◌, ℕ, ◌+◌, List, [], ◌∷◌, ◌++◌, length, map, suc, Bool, true, false, ◌&&◌, nat_eq, not, IsTrue, Option, Some, None, inl, inr, refl, sym, ap, ◌∙◌}
 use Rattle.std.specs.List.{list_all}
 use Rattle.mp_logic.specs.declared.sym.Sym.{Sym}
 use Rattle.mp_term.specs.declared.term.Term.{Term, Var}
 use Rattle.mp_term.specs.declared.sequent.Sequent.{Sequent}
-use Rattle.mp_subst.specs.Subst.{variables}
+use Rattle.mp_term.specs.Subst.{variables}
 use Rattle.mp_schema.specs.declared.instance.MetaVal.{MetaVal}
 use Rattle.mp_schema.specs.declared.instance.Inst.{Inst}
 use Rattle.mp_schema.specs.declared.pattern.ParamPat.{ParamPat}
@@ -24,10 +24,13 @@ use Rattle.mp_schema.specs.Values.{find_ctx, find_meta, find_param}
 use Rattle.mp_schema.proofs.Layers.{inst-Var, inst-Op, inst-Meta, inst_bound-is}
 use Rattle.mp_match.specs.Covering.{is_there, param_covered, covered, covered_bound, is_covered, item_covered, schema_covered}
 use Rattle.mp_match.specs.Giving.{with_value}
-use Rattle.mp_match.specs.Solutions.{Agrees}
-use Rattle.mp_match.proofs.Equal.{both_true, same_name}
+use Rattle.mp_schema.specs.Solutions.{Agrees, SameValue}
+use Rattle.mp_term.proofs.EqualTerms.{both_true, same_name}
 use Rattle.mp_match.proofs.CoverLaws.{covered-Op, covered-Meta, covered_bound-is}
-use Rattle.mp_match.proofs.KnownLists.{inst-known}
+use Rattle.mp_schema.specs.Occurrences.{Occurrence}
+use Rattle.mp_schema.proofs.Agreeing.{SameAt, SameHole, same_seq}
+use Rattle.mp_schema.proofs.UseKinds.{kind_of}
+use Rattle.mp_match.proofs.Covered.{HasValue, all_schema}
 use Rattle.mp_match.proofs.Laid.{or_either}
 use Rattle.mp_match.proofs.Solving.{meta-kept, meta-new, meta-either}
 
@@ -97,91 +100,21 @@ module _ (i : Inst) (v w : Instance) (av : Agrees v i) (aw : Agrees w i) where
   agreeing-terms p h g env m =
       inst-same (λ name. is_there (find_meta i.metas name)) (λ name. is_there (find_param i.params name)) g v.values w.values same-meta same-param p h env m
 
-  -- ## Sequents
+  agree_value : (c : Bool) (name : Sym) → HasValue i c name → SameValue v w c name
+  agree_value true name h = same-kept name h
+  agree_value false name h = same-meta name h
 
-  -- the contexts before a place have the same hypotheses
-  abbrev SameContexts : List Sym → Type 0
-  SameContexts names = (c : Sym) → has names c ≡ true → v.kept c ≡ w.kept c
+  pub agree_hole : (name : Sym) → is_there (find_param i.params name) ≡ true → SameHole v w name
+  agree_hole name h = same-param name h
 
-  same-joined : (known names : List Sym) (pos : Sym → ℕ) → SameContexts known → has_all known names ≡ true →
-      joined (map (λ c. upto (pos c) (length (v.kept c))) names) ≡ joined (map (λ c. upto (pos c) (length (w.kept c))) names)
-  same-joined known [] pos s h = refl
-  same-joined known (c ∷ names) pos s h =
-      let k = both_true (has known c) (has_all known names) h in
-      rw (s c k.0, same-joined known names pos s k.1) refl
+  pub agree_at : (o : Occurrence) → HasValue i o.is_context o.name → SameAt v w (kind_of o)
+  agree_at o h = agree_value o.is_context o.name h
 
-  same-ground : (known names : List Sym) (pos : Sym → ℕ) → SameContexts known → is_known known names ≡ true → ground_at v pos names ≡ ground_at w pos names
-  same-ground known names pos s h =
-      let k = both_true (has_all known names) (is_apart names) h in
-      let ambient : v.ambient ≡ w.ambient = av.ambient ∙ sym aw.ambient in
-      rw (ambient, same-joined known names pos s k.0) refl
-
-  same-pattern : (known : List Sym) (p : Pattern) (pos : Sym → ℕ) (env : List Term) (m : ℕ) → SameContexts known → lists_known known p ≡ true → is_covered i p ≡ true →
-      inst_of (ground_at v pos) v.values p env m ≡ inst_of (ground_at w pos) w.values p env m
-  same-pattern known p pos env m s k c =
-      inst-known known (ground_at v pos) (ground_at w pos) v.values (λ names h. same-ground known names pos s h) p k env m ∙ agreeing-terms p c (ground_at w pos) env m
-
-  same-made : (b : Before) (args : List Pattern) (pos : Sym → ℕ) (env : List Term) (m : ℕ) → SameContexts b.contexts → all_placed args b ≡ true →
-      all_pass (map (is_covered i) args) ≡ true → made_each (map (inst_of (ground_at v pos) v.values) args) env m ≡ made_each (map (inst_of (ground_at w pos) w.values) args) env m
-  same-made b [] pos env m s k c = refl
-  same-made b (a ∷ rest) pos env m s k c =
-      let p = both_true (pattern_placed a b) (all_placed rest b) k in
-      let l = both_true (below a b.named) (lists_known b.contexts a) p.0 in
-      let q = both_true (is_covered i a) (all_pass (map (is_covered i) rest)) c in
-      rw (same-pattern b.contexts a pos env m s l.1 q.0, same-made b rest pos env m s p.1 q.1) refl
-
-  same-telescope : (b : Before) (l : Spot) (ctxs : List Sym) (args : List Pattern) (c j : ℕ) (us : List Term) → SameContexts b.contexts → is_known b.contexts ctxs ≡ true →
-      all_placed args b ≡ true → all_pass (map (is_covered i) args) ≡ true → telescope v l ctxs args c j us ≡ telescope w l ctxs args c j us
-  same-telescope b l ctxs args c j [] s k p q = refl
-  same-telescope b l ctxs args c j (u ∷ us) s k p q =
-      rw (same-ground b.contexts ctxs l.pos s k, same-made b args l.pos (map Var l.env) (c + j) s p q, same-telescope b l ctxs args c (suc j) us s k p q) refl
-
-  abbrev SameItem : Item → Spot → Type 0
-  SameItem x l = (hyps_of v x l ≡ hyps_of w x l) × (behind v x l ≡ behind w x l)
-
-  same-item : (x : Item) (b : Before) (l : Spot) → SameContexts b.contexts → item_placed x b ≡ true → item_covered i x ≡ true → SameItem x l × SameContexts (past x b).contexts
-  same-item (Hyp p) b l s k c =
-      let h = both_true (below p b.named) (lists_known b.contexts p) k in
-      ((rw (same-pattern b.contexts p l.pos (map Var l.env) l.next s h.1 c) refl, refl), s)
-  same-item (Ctx name ctxs args) b l s k c =
-      let h = both_true (not (has b.contexts name) && is_known b.contexts ctxs) (all_placed args b) k in
-      let h' = both_true (not (has b.contexts name)) (is_known b.contexts ctxs) h.0 in
-      let q = both_true (is_there (find_ctx i.ctxs name)) (all_pass (map (is_covered i) args)) c in
-      let kept = same-kept name q.0 in (
-        (same-telescope b l ctxs args l.next 0 (v.kept name) s h'.1 h.1 q.1 ∙ ap (telescope w l ctxs args l.next 0) kept, rw kept refl),
-        λ a t. elim (or_either (nat_eq name.0 a.0) (has b.contexts a) t) [
-          | inl same ↦ let e = same_name name a same in rw (← e) kept
-          | inr old ↦ s a old
-        ],
-      )
-
-  abbrev SameItems : List Item → Spot → Type 0
-  SameItems xs l = (hyps_from v xs l ≡ hyps_from w xs l) × (behind_all v xs l ≡ behind_all w xs l)
-
-  same-items : (xs : List Item) (b : Before) (l : Spot) → SameContexts b.contexts → each_item item_placed xs b ≡ true → list_all (item_covered i) xs ≡ true →
-      SameItems xs l × SameContexts (past_all xs b).contexts
-  same-items [] b l s k c = ((refl, refl), s)
-  same-items (x ∷ xs) b l s k c =
-      let k' = both_true (item_placed x b) (each_item item_placed xs (past x b)) k in
-      let c' = both_true (item_covered i x) (list_all (item_covered i) xs) c in
-      let first = same-item x b l s k'.0 c'.0 in
-      let rest = same-items xs (past x b) (behind v x l) first.1 k'.1 c'.1 in
-      ((rw (first.0.0, rest.0.0, first.0.1) refl, rest.0.1 ∙ ap (behind_all w xs) first.0.1), rest.1)
-
-  same-sequent : (hs hs' : List Term) (c c' : Term) → hs ≡ hs' → c ≡ c' → ◌≡◌ {A = Sequent} (record { hyps = hs; concl = c }) (record { hyps = hs'; concl = c' })
-  same-sequent hs hs' c c' p q = rw (p, q) refl
+  pub agree_ambient : v.ambient ≡ w.ambient
+  agree_ambient = av.ambient ∙ sym aw.ambient
 
   pub agreeing-sequents : (s : Schema) → IsTrue (is_placed s) → IsTrue (schema_covered i s) → seq v s ≡ seq w s
-  agreeing-sequents s k c =
-      let k' = both_true (each_item item_placed s.items nothing_before) (pattern_placed s.concl (past_all s.items nothing_before)) k in
-      let c' = both_true (list_all (item_covered i) s.items) (is_covered i s.concl) c in
-      let r = same-items s.items nothing_before first_spot (λ a h. absurd (cc)) k'.0 c'.0 in
-      let b = past_all s.items nothing_before in
-      let l = both_true (below s.concl b.named) (lists_known b.contexts s.concl) k'.1 in
-      let at : Spot = behind_all v s.items first_spot in
-      let concl = same-pattern b.contexts s.concl at.pos (map Var at.env) at.next r.1 l.1 c'.1 in
-      same-sequent (hyps_from v s.items first_spot) (hyps_from w s.items first_spot) (concl_at v s.concl (behind_all v s.items first_spot))
-      (concl_at w s.concl (behind_all w s.items first_spot)) r.0.0 (concl ∙ ap (concl_at w s.concl) r.0.1)
+  agreeing-sequents s k c = let a = all_schema i s c in same_seq v w agree_ambient s k (λ o j. agree_at o (a.values o j)) (λ n j. agree_hole n (a.holes n j))
 
 -- ## One more value
 

@@ -4,10 +4,9 @@ use Rattle.std.proofs.Math.ListN.{drop_of_length-le}
 use Rattle.std.proofs.lemmas.Bool.Decides.{nat_tests}
 use Rattle.mp_term.specs.declared.term.Bound.{Bound}
 use Rattle.mp_term.specs.Terms.{in_scope_of, all_at_scope}
-use Rattle.mp_term.proofs.Layers.{scoped_bound, scoped_bound-is}
-use Rattle.mp_subst.specs.Subst.{widest_of, widest_at, width_bound}
-use Rattle.mp_subst.proofs.Layers.{width_bound-is}
-use Rattle.mp_subst.proofs.SubLaws.{drop-at}
+use Rattle.mp_term.proofs.Layers.{scoped_bound, scoped_bound-is, width_bound-is}
+use Rattle.mp_term.specs.Subst.{widest_of, widest_at, width_bound}
+use Rattle.mp_term.proofs.SubLaws.{drop-at}
 use Rattle.mp_schema.specs.declared.pattern.PBound.{PBound}
 use Rattle.mp_schema.specs.declared.pattern.Pattern as pat
 use Rattle.mp_schema.proofs.pattern.PBound.TheLaws as bound_size
@@ -20,8 +19,8 @@ use Rattle.mp_match.specs.declared.place.Place.{Place}
 use Rattle.mp_match.specs.Matching.{found_in, all_found, matcher_bound}
 use Rattle.mp_match.specs.Places.{ground_of, levels_at, names_of}
 use Rattle.mp_match.proofs.Layers.{finds_bound-is}
-use Rattle.mp_match.proofs.Ranges.{upto-append}
-use Rattle.mp_match.proofs.Equal.{both_true}
+use Rattle.mp_schema.proofs.Ranges.{upto-append}
+use Rattle.mp_term.proofs.EqualTerms.{both_true}
 
 -- binders come last
 pub levels-under : (place : Place) (scope k : ℕ) → place.next ≤ scope → levels_at place scope ++ upto scope k ≡ levels_at place (scope + k)

@@ -4,7 +4,7 @@ use Rattle.std.specs.Option.{option_map}
 use Rattle.std.specs.List.{IsDistinct}
 use Rattle.mp_logic.specs.declared.sym.Sym.{Sym}
 use Rattle.mp_term.specs.declared.term.Term.{Term}
-use Rattle.mp_subst.specs.Subst.{unrenamed}
+use Rattle.mp_term.specs.Subst.{unrenamed}
 use Rattle.mp_schema.specs.declared.pattern.Pattern.{Pattern}
 use Rattle.mp_schema.specs.Conditions.{seen, args_fine, is_known}
 use Rattle.mp_match.specs.declared.place.Found.{Found}
@@ -12,7 +12,7 @@ use Rattle.mp_match.specs.declared.place.Place.{Place}
 use Rattle.mp_match.specs.declared.place.Walk.{Walk}
 use Rattle.mp_match.specs.Places.{ground_of, names_of, IsUsable}
 use Rattle.mp_match.specs.Walks.{kept_with, kept_found, context_levels, context_found, past_context}
-use Rattle.mp_match.proofs.Arguments.{arguments-distinct, arguments-below}
+use Rattle.mp_schema.proofs.Arguments.{arguments-distinct, arguments-below}
 
 module _ (place : Place) (ctxs : List Sym) (args : List Pattern) (fine : IsTrue (args_fine (length place.named) (map seen args)))
     (known : IsTrue (is_known (names_of place.ctxs) ctxs)) (usable : IsUsable place) where

@@ -6,7 +6,7 @@ use Rattle.mp_logic.specs.declared.sym.Sym.{Sym}
 use Rattle.mp_term.specs.declared.term.Param.{Param}
 use Rattle.mp_term.specs.declared.term.Term.{Term, out-Term}
 use Rattle.mp_term.specs.declared.term.Bound.{Bound}
-use Rattle.mp_subst.specs.Subst.{unrenamed}
+use Rattle.mp_term.specs.Subst.{unrenamed}
 use Rattle.mp_schema.specs.declared.instance.MetaVal.{MetaVal}
 use Rattle.mp_schema.specs.declared.instance.ParamVal.{ParamVal}
 use Rattle.mp_schema.specs.declared.pattern.ParamPat.{ParamPat}
@@ -16,18 +16,19 @@ use Rattle.mp_schema.specs.declared.pattern.Pattern as pat
 use Rattle.mp_schema.specs.declared.pattern.PBound.{PBound}
 use Rattle.mp_schema.specs.Induction.{OfEachBody, OfEachArg, each_pattern}
 use Rattle.mp_schema.specs.Instances.{Ground, upto, all_pass}
-use Rattle.mp_schema.specs.Conditions.{Seen, seen, seen_bound, is_level_below, all_variables, all_fine}
+use Rattle.mp_schema.specs.Conditions.{Seen, seen, seen_bound, is_level_below, all_variables, all_fine, argument}
 use Rattle.mp_schema.specs.Values.{find_meta, find_param}
 use Rattle.mp_schema.proofs.Layers.{seen-Op, seen-Meta, fine-Op, fine-Meta, fine_bound-is}
 use Rattle.mp_match.specs.declared.place.Found.{Found}
-use Rattle.mp_match.specs.Equality.{same_param, same_term, is_level}
+use Rattle.mp_term.specs.Equality.{same_param, same_term, is_level}
 use Rattle.mp_match.specs.Covering.{is_there, param_covered, covered, covered_bound}
-use Rattle.mp_match.specs.Matching.{hole_found, param_found, params_found, value_found, meta_found, matcher_bound, all_found, argument, found_in}
-use Rattle.mp_match.proofs.Equal.{both_true, and_true, decided}
-use Rattle.mp_match.proofs.Layers.{out-Var, out-Op, variant, finds-Var, finds-Op, finds_bound-is}
+use Rattle.mp_match.specs.Matching.{hole_found, param_found, params_found, value_found, meta_found, matcher_bound, all_found, found_in}
+use Rattle.mp_term.proofs.EqualTerms.{both_true, and_true, decided}
+use Rattle.mp_term.proofs.Layers.{out-Var, out-Op, variant}
+use Rattle.mp_match.proofs.Layers.{finds-Var, finds-Op, finds_bound-is}
 use Rattle.mp_match.proofs.Known.{found-Meta}
-use Rattle.mp_match.proofs.Ranges.{length-upto}
-use Rattle.mp_match.proofs.Arguments.{fine-variables}
+use Rattle.mp_schema.proofs.Ranges.{length-upto}
+use Rattle.mp_schema.proofs.Arguments.{fine-variables}
 use Rattle.mp_match.proofs.Solving.{meta-kept, meta-new, param-kept, param-new}
 
 -- one level of the definition

@@ -3,14 +3,14 @@ use Rattle.std.proofs.Common.{◌≡◌, ℕ, ◌+◌, ◌-◌, ◌<◌, ◌^◌
 use Rattle.mp_term.specs.declared.sequent.Sequent.{Sequent}
 use Rattle.mp_term.specs.Terms.{in_scope_of}
 use Rattle.mp_term.specs.Limits.{in_scopes_from, sequent_in_scope_of}
-use Rattle.mp_subst.specs.Subst.{widest_of}
+use Rattle.mp_term.specs.Subst.{widest_of, widest_from, widest_in_sequent}
 use Rattle.mp_schema.specs.declared.schema.Schema.{Schema}
 use Rattle.mp_schema.specs.Conditions.{Before, seen, below, lists_known, each_item, item_placed, item_fine, pattern_placed, past_all, nothing_before, is_conclusion}
 use Rattle.mp_match.specs.declared.place.Walk.{Walk}
 use Rattle.mp_match.specs.declared.sizes.Sizes.{Sizes}
 use Rattle.mp_match.specs.Places.{before, names_of, IsUsable}
-use Rattle.mp_match.specs.Walks.{needed, items_found, first_walk, widest_from, widest_in_sequent}
-use Rattle.mp_match.proofs.Equal.{both_true}
+use Rattle.mp_match.specs.Walks.{needed, items_found, first_walk}
+use Rattle.mp_term.proofs.EqualTerms.{both_true}
 use Rattle.mp_match.proofs.Laid.{IsLaid, laid-usable}
 use Rattle.mp_match.proofs.Ready.{Ready, Ready-init, Ready-all, before-all}
 use Rattle.mp_match.proofs.SequentSizes.{IsConclusion, conclusion-parts}

@@ -10,17 +10,17 @@ use Rattle.mp_term.specs.declared.term.Term.{Term, Var, Op}
 use Rattle.mp_term.specs.declared.term.Bound.{Bound}
 use Rattle.mp_term.specs.Induction.{OfEachBody, each_term}
 use Rattle.mp_term.specs.Terms.{in_scope_of}
-use Rattle.mp_subst.specs.Subst.{widest_of, widest_at, width_bound, unrenamed, is_listed, IsRenaming, IsFoundWhereListed}
-use Rattle.mp_subst.proofs.Layers.{widest-Var, widest-Op}
-use Rattle.mp_subst.proofs.Renaming.{few_levels}
+use Rattle.mp_term.specs.Subst.{widest_of, widest_at, width_bound, unrenamed, is_listed, IsRenaming, IsFoundWhereListed}
+use Rattle.mp_term.proofs.Layers.{widest-Var, widest-Op}
+use Rattle.mp_term.proofs.Renaming.{few_levels}
 use Rattle.mp_schema.specs.declared.instance.CtxVal.{CtxVal}
 use Rattle.mp_schema.specs.declared.instance.Inst.{Inst}
 use Rattle.mp_schema.specs.Instances.{upto}
 use Rattle.mp_schema.specs.Values.{find_meta, first_variable_of, kept_of, body_or, variables_of}
 use Rattle.mp_match.specs.Giving.{given_levels, with_value, given_to, IsGiven, NamesOnly}
 use Rattle.mp_match.specs.Places.{EndsBelow}
-use Rattle.mp_match.proofs.Ranges.{length-upto, get_or-upto}
-use Rattle.mp_match.proofs.Apart.{Below, Apart-from, Apart-to, Below-from, Below-to, Apart-append, Below-append, Below-left, Below-right, Below-more, Apart-upto, Below-upto, Below-Differ-upto}
+use Rattle.mp_schema.proofs.Ranges.{length-upto, get_or-upto}
+use Rattle.mp_schema.proofs.Apart.{Below, Apart-from, Apart-to, Below-from, Below-to, Apart-append, Below-append, Below-left, Below-right, Below-more, Apart-upto, Below-upto, Below-Differ-upto}
 use Rattle.mp_match.proofs.Laid.{range}
 use Rattle.mp_match.proofs.Solving.{meta-new}
 use Rattle.mp_match.proofs.Steps.{renaming-is}

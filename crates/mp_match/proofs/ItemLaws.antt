@@ -12,22 +12,23 @@ use Rattle.mp_schema.specs.declared.pattern.Pattern.{Pattern}
 use Rattle.mp_schema.specs.declared.schema.Item.TheVariants.{Ctx, Hyp}
 use Rattle.mp_schema.specs.Instances.{fits, all_pass, inst_of}
 use Rattle.mp_schema.specs.Sequents.{Instance, Spot, hyps_of, behind, item_fits, wide_of, ground_at}
-use Rattle.mp_schema.specs.Conditions.{Seen, seen, has, is_known, below, lists_known, item_placed, item_fine, all_placed}
+use Rattle.mp_schema.specs.Conditions.{Seen, seen, has, is_known, below, lists_known, item_placed, item_fine, all_placed, argument}
 use Rattle.mp_schema.specs.Values.{find_ctx, first_variable_of, first_or}
 use Rattle.mp_match.specs.declared.place.Walk.{Walk}
 use Rattle.mp_match.specs.declared.sizes.Sizes.{Sizes}
-use Rattle.mp_match.specs.Matching.{argument, found_in}
+use Rattle.mp_match.specs.Matching.{found_in}
 use Rattle.mp_match.specs.Places.{before, names_of, ground_of, levels_at}
 use Rattle.mp_match.specs.Walks.{size_after, past_named, past_context, hyp_found, context_levels, item_found}
-use Rattle.mp_match.proofs.Equal.{both_true, and_true, decided, same_name}
+use Rattle.mp_term.proofs.EqualTerms.{both_true, and_true, decided, same_name}
 use Rattle.mp_match.proofs.Laid.{IsLaid, laid-usable, ctx-kept, ctx-new, ctx-other, ctx-none, ctx-either, names-append}
-use Rattle.mp_match.proofs.Arguments.{fine-variables}
+use Rattle.mp_schema.proofs.Arguments.{fine-variables}
 use Rattle.mp_match.proofs.Kept.{in_scopes-take}
 use Rattle.mp_match.proofs.Contexts.{context_distinct, context_below}
 use Rattle.mp_match.proofs.Ready.{hyp-result, ctx-result}
 use Rattle.mp_match.proofs.PatternLaws.{Asks, args-fit}
 use Rattle.mp_match.proofs.Solving.{Meets, Solves}
-use Rattle.mp_match.proofs.Telescopes.{placed_from, telescope-placed, kept-sound, kept-complete}
+use Rattle.mp_schema.proofs.Rows.{placed_from, telescope-placed}
+use Rattle.mp_match.proofs.Telescopes.{kept-sound, kept-complete}
 use Rattle.mp_match.proofs.Ties.{HasContexts, At, ground-same, wide-same, asks-makes, makes-asks, levels-here, solved-here}
 
 -- the instance has what is found

@@ -6,13 +6,14 @@ use Rattle.std.proofs.Math.ListN.{drop_of_length-le}
 use Rattle.mp_term.specs.declared.term.Term.{Term}
 use Rattle.mp_term.specs.Terms.{in_scope_of}
 use Rattle.mp_term.specs.Limits.{in_scopes_from}
-use Rattle.mp_subst.specs.Subst.{widest_of, IsRenaming}
-use Rattle.mp_subst.proofs.SubLaws.{drop-at}
+use Rattle.mp_term.specs.Subst.{widest_of, IsRenaming, widest_from}
+use Rattle.mp_term.proofs.SubLaws.{drop-at}
 use Rattle.mp_schema.specs.Instances.{upto}
-use Rattle.mp_match.specs.Walks.{kept_with, kept_found, widest_from}
-use Rattle.mp_match.proofs.Equal.{both_true}
-use Rattle.mp_match.proofs.Apart.{Apart-from, Apart-to, Below-from, Below-to, Apart-append, Below-append, Below-more, Apart-upto, Below-upto, Below-Differ-upto}
+use Rattle.mp_match.specs.Walks.{kept_with, kept_found}
+use Rattle.mp_term.proofs.EqualTerms.{both_true}
+use Rattle.mp_schema.proofs.Apart.{Apart-from, Apart-to, Below-from, Below-to, Apart-append, Below-append, Below-more, Apart-upto, Below-upto, Below-Differ-upto}
 use Rattle.mp_match.proofs.Steps.{renaming-is}
+use Rattle.mp_schema.proofs.Rows.{next-distinct, next-below}
 
 -- ## Widths and scopes of hypotheses
 
@@ -46,15 +47,6 @@ in_scopes-take m (suc k) [] h = refl
 in_scopes-take m (suc k) (t ∷ ts) h =
     let b = both_true (in_scope_of t m) (in_scopes_from (m + 1) ts) h in
     rw (b.0, in_scopes-take (m + 1) k ts b.1) refl
-
--- one more level
-pub next-distinct : (levels : List ℕ) (m : ℕ) → IsDistinct nat_eq levels → All (λ l. l < m) levels → IsDistinct nat_eq (levels ++ m ∷ [])
-next-distinct levels m d b =
-    Apart-to (levels ++ upto m 1) (Apart-append levels (upto m 1) (Apart-from levels d) (Apart-upto m 1) (Below-Differ-upto m 1 levels (Below-from m levels b)))
-
-pub next-below : (levels : List ℕ) (m : ℕ) → All (λ l. l < m) levels → All (λ l. l < m + 1) (levels ++ m ∷ [])
-next-below levels m b =
-    Below-to (m + 1) (levels ++ upto m 1) (Below-append levels (upto m 1) (m + 1) (Below-more m (m + 1) levels (omega arith) (Below-from m levels b)) (Below-upto m 1))
 
 -- ## The loop
 

@@ -9,15 +9,15 @@ use Rattle.mp_schema.specs.declared.pattern.Pattern as pat
 use Rattle.mp_schema.specs.declared.pattern.PBound.{PBound}
 use Rattle.mp_schema.specs.Induction.{OfEachBody, OfEachArg, each_pattern}
 use Rattle.mp_schema.specs.Instances.{Ground, all_pass}
-use Rattle.mp_schema.specs.Conditions.{Seen, seen, args_fine, lists_known, is_known}
+use Rattle.mp_schema.specs.Conditions.{Seen, seen, args_fine, lists_known, is_known, argument}
 use Rattle.mp_schema.proofs.Layers.{seen-Var, seen-Op, seen-Meta, fine-Meta, lists_known-Meta}
 use Rattle.mp_match.specs.declared.place.Found.{Found}
 use Rattle.mp_match.specs.declared.place.Place.{Place}
-use Rattle.mp_match.specs.Matching.{Matcher, matcher, found_in, meta_found, argument}
+use Rattle.mp_match.specs.Matching.{Matcher, matcher, found_in, meta_found}
 use Rattle.mp_match.specs.Places.{ground_of, levels_at, names_of, IsUsable}
 use Rattle.mp_match.proofs.Layers.{level-Var, level-Op, level-Meta, finds-Meta}
-use Rattle.mp_match.proofs.Equal.{both_true}
-use Rattle.mp_match.proofs.Arguments.{arguments-distinct, arguments-below}
+use Rattle.mp_term.proofs.EqualTerms.{both_true}
+use Rattle.mp_schema.proofs.Arguments.{arguments-distinct, arguments-below}
 
 -- both folds tell a pattern's level
 module _ (g : Ground) where

@@ -10,8 +10,8 @@ use Rattle.mp_schema.specs.Values.{find_ctx, kept_of, first_variable_of, variabl
 use Rattle.mp_match.specs.declared.place.Place.{Place}
 use Rattle.mp_match.specs.Places.{names_of, ground_of, IsUsable}
 use Rattle.mp_match.specs.Walks.{past_named, past_context}
-use Rattle.mp_match.proofs.Equal.{decided, both_true, same_name, same_name-refl}
-use Rattle.mp_match.proofs.Apart.{Apart, Below, Differ, Apart-to, Below-to, Apart-append, Below-append, Below-more, Apart-upto, Below-upto, Differ-append, Below-Differ-upto}
+use Rattle.mp_term.proofs.EqualTerms.{decided, both_true, same_name, same_name-refl}
+use Rattle.mp_schema.proofs.Apart.{Apart, Below, Differ, Apart-to, Below-to, Apart-append, Below-append, Below-more, Apart-upto, Below-upto, Differ-append, Below-Differ-upto}
 
 -- ## Look-ups
 

@@ -13,36 +13,9 @@ use Rattle.mp_schema.specs.declared.pattern.Pattern as pat
 use Rattle.mp_schema.specs.declared.pattern.PBound.{PBound}
 use Rattle.mp_schema.specs.Instances.{Ground, upto}
 use Rattle.mp_match.specs.declared.place.Found.{Found}
-use Rattle.mp_match.specs.Equality.{same_term, same_bound, is_level, is_operator}
-use Rattle.mp_match.specs.Matching.{Matcher, matcher, matcher_bound, found_in, op_found, meta_found, argument}
-
-pub out-Var : (l : ℕ) → out-Term (Var l) ≡ term_layer.Var l
-out-Var l = search (rules, trm.the_lemmas)
-
-pub out-Op : (o : Sym) (ps : List Param) (bs : List Bound) → out-Term (Op o ps bs) ≡ term_layer.Op o ps bs
-out-Op o ps bs = search (rules, trm.the_lemmas)
-
-pub same-Var : (l : ℕ) (t : Term) → same_term (Var l) t ≡ is_level l (out-Term t)
-same-Var l t = search (rules, trm.the_lemmas)
-
-pub same-Op : (o : Sym) (ps : List Param) (bs : List Bound) (t : Term) → same_term (Op o ps bs) t ≡ is_operator o ps (map same_bound bs) (out-Term t)
-same-Op o ps bs t = search (rules, trm.the_lemmas)
-
-pub same_bound-is : (b x : Bound) → same_bound b x ≡ (nat_eq b.binders x.binders && same_term b.body x.body)
-same_bound-is b x = search (rules, trm.the_lemmas)
-
--- a term is a variable or an operator
-abbrev pub Variant : Term → Type 0
-Variant t = ((l : ℕ) × (t ≡ Var l)) ⊎ ((o : Sym) × (ps : List Param) × (bs : List Bound) × (t ≡ Op o ps bs))
-
-variant_var : (l : ℕ) → Variant (Var l)
-variant_var l = inl (l, refl)
-
-variant_op : (o : Sym) (ps : List Param) (bs : List Bound) → OfEachBody Variant bs → Variant (Op o ps bs)
-variant_op o ps bs _ = inr (o, ps, bs, refl)
-
-pub variant : (t : Term) → Variant t
-variant = each_term Variant variant_var variant_op
+use Rattle.mp_term.specs.Equality.{same_term, same_bound, is_level, is_operator}
+use Rattle.mp_match.specs.Matching.{Matcher, matcher, matcher_bound, found_in, op_found, meta_found}
+use Rattle.mp_schema.specs.Conditions.{argument}
 
 module _ (g : Ground) where
   pub level-Var : (l : ℕ) → (matcher g (pat.Var l)).level ≡ Some l

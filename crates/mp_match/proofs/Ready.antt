@@ -6,7 +6,7 @@ use Rattle.std.proofs.lemmas.Option.{option_and_then_some}
 use Rattle.mp_logic.specs.declared.sym.Sym.{Sym}
 use Rattle.mp_term.specs.declared.term.Term.{Term}
 use Rattle.mp_term.specs.Limits.{in_scopes_from}
-use Rattle.mp_subst.proofs.SubLaws.{drop-at}
+use Rattle.mp_term.proofs.SubLaws.{drop-at}
 use Rattle.mp_schema.specs.declared.instance.CtxVal.{CtxVal}
 use Rattle.mp_schema.specs.declared.pattern.Pattern.{Pattern}
 use Rattle.mp_schema.specs.declared.schema.Item.{Item}
@@ -18,8 +18,9 @@ use Rattle.mp_match.specs.declared.place.Walk.{Walk}
 use Rattle.mp_match.specs.declared.sizes.Sizes.{Sizes}
 use Rattle.mp_match.specs.Matching.{found_in}
 use Rattle.mp_match.specs.Places.{before, names_of, ground_of, levels_at}
-use Rattle.mp_match.specs.Walks.{taken, needed, size_after, past_named, past_context, hyp_found, kept_found, context_levels, item_found, items_found, first_walk, widest_from}
-use Rattle.mp_match.proofs.Equal.{both_true}
+use Rattle.mp_match.specs.Walks.{taken, needed, size_after, past_named, past_context, hyp_found, kept_found, context_levels, item_found, items_found, first_walk}
+use Rattle.mp_term.specs.Subst.{widest_from}
+use Rattle.mp_term.proofs.EqualTerms.{both_true}
 use Rattle.mp_match.proofs.Laid.{IsLaid, laid-named, laid-context, names-append}
 use Rattle.mp_match.proofs.Kept.{widest_from-ge, widest_from-drop, in_scopes-drop}
 use Rattle.mp_match.proofs.Contexts.{kept-length}

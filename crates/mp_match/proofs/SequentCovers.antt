@@ -24,9 +24,10 @@ use Rattle.mp_match.specs.Covering.{is_there, is_covered, item_covered, schema_c
 use Rattle.mp_match.specs.Matching.{found_in}
 use Rattle.mp_match.specs.Matches.{as_instance}
 use Rattle.mp_match.specs.Places.{before, names_of, ground_of, levels_at}
-use Rattle.mp_match.specs.Walks.{sizes_of, item_found, items_found, first_walk, concl_found, match_of, past_context, widest_in_sequent}
-use Rattle.mp_match.proofs.Equal.{both_true, and_true}
-use Rattle.mp_match.proofs.Arguments.{fine-variables}
+use Rattle.mp_match.specs.Walks.{sizes_of, item_found, items_found, first_walk, concl_found, match_of, past_context}
+use Rattle.mp_term.specs.Subst.{widest_in_sequent}
+use Rattle.mp_term.proofs.EqualTerms.{both_true, and_true}
+use Rattle.mp_schema.proofs.Arguments.{fine-variables}
 use Rattle.mp_match.proofs.CoverLaws.{Grows, Grows-same, Grows-then, has_meta, has_param, Covers, Covers-lasts, args-covered, pattern-covered}
 use Rattle.mp_match.proofs.Laid.{ctx-kept, ctx-new, ctx-none}
 use Rattle.mp_match.proofs.Ready.{Ready, Ready-next, hyp-result, ctx-result}

@@ -23,9 +23,10 @@ use Rattle.mp_match.specs.declared.sizes.Sizes.{Sizes}
 use Rattle.mp_match.specs.Matching.{found_in}
 use Rattle.mp_match.specs.Matches.{as_instance}
 use Rattle.mp_match.specs.Places.{names_of, ground_of, levels_at}
-use Rattle.mp_match.specs.Walks.{named_in, shared, sizes_of, needed, items_found, first_walk, concl_found, match_of, widest_in_sequent}
-use Rattle.mp_match.specs.Solutions.{Agrees, FirstHas, HasFirst, GivesGoal, Begins, IsInstance}
-use Rattle.mp_match.proofs.Equal.{both_true, and_true, decided}
+use Rattle.mp_match.specs.Walks.{named_in, shared, sizes_of, needed, items_found, first_walk, concl_found, match_of}
+use Rattle.mp_term.specs.Subst.{widest_in_sequent}
+use Rattle.mp_schema.specs.Solutions.{Agrees, FirstHas, HasFirst, GivesGoal, Begins, IsInstance}
+use Rattle.mp_term.proofs.EqualTerms.{both_true, and_true, decided}
 use Rattle.mp_match.proofs.PatternLaws.{Asks}
 use Rattle.mp_match.proofs.Solving.{Solves}
 use Rattle.mp_match.proofs.Ready.{Ready, before-all}
@@ -34,7 +35,8 @@ use Rattle.mp_match.proofs.Ended.{started, end-laid, end-known, end-fine, end-ne
 use Rattle.mp_match.proofs.TermMatch.{meets_itself, meets_nothing}
 use Rattle.mp_match.proofs.Ties.{HasContexts, At, asks-makes, makes-asks, solved-here}
 use Rattle.mp_match.proofs.ItemLaws.{Tied}
-use Rattle.mp_match.proofs.WalkLaws.{IsSized, telescope-length, items-sound, items-complete, items-sized}
+use Rattle.mp_schema.proofs.Rows.{telescope-length}
+use Rattle.mp_match.proofs.WalkLaws.{IsSized, items-sound, items-complete, items-sized}
 
 -- ## The sizes of an instance's contexts
 

@@ -8,7 +8,7 @@ use Rattle.mp_schema.specs.declared.schema.Schema.{Schema}
 use Rattle.mp_schema.specs.Conditions.{contexts_among, context_names, has_two_contexts, is_conclusion, is_placed, is_fine, is_framed}
 use Rattle.mp_match.specs.declared.sizes.Sizes.{Sizes}
 use Rattle.mp_match.specs.Walks.{named_in, shared, sizes_of, needed}
-use Rattle.mp_match.proofs.Equal.{both_true, decided}
+use Rattle.mp_term.proofs.EqualTerms.{both_true, decided}
 
 -- what so many contexts take
 abbrev spent : ℕ → ℕ → ℕ → ℕ

@@ -1,6 +1,7 @@
 -- Where the variables of the contexts that a match finds lie in the goal.
-use Rattle.std.proofs.Common.{◌≡◌, ℕ, ◌+◌, ◌<◌, ◌≤◌, ◌^◌, List, length, Bool, true, false, nat_eq, Option, Some, None, option_and_then, IsTrue, IsSome, ◌↔◌, All, ap, ◌∙◌, subst, arith}
+use Rattle.std.proofs.Common.{◌≡◌, ℕ, ◌+◌, ◌<◌, ◌≤◌, ◌^◌, List, length, Bool, true, false, nat_eq, Option, Some, None, option_and_then, IsTrue, IsSome, ◌↔◌, All, refl, ap, ◌∙◌, subst, arith}
 use Rattle.std.specs.Option.{option_map}
+use Rattle.std.specs.Prelude.{Result, Ok, Err, IfOk, IfSome}
 use Rattle.std.specs.List.{IsDistinct}
 use Rattle.std.proofs.lemmas.Option.{option_and_then_some}
 use Rattle.mp_logic.specs.declared.sym.Sym.{Sym}
@@ -16,19 +17,14 @@ use Rattle.mp_match.specs.declared.sizes.Sizes.{Sizes}
 use Rattle.mp_match.specs.Matching.{found_in}
 use Rattle.mp_match.specs.Matches.{as_instance}
 use Rattle.mp_match.specs.Places.{names_of, ground_of, levels_at}
-use Rattle.mp_match.specs.Walks.{sizes_of, items_found, first_walk, concl_found, match_of, widest_in_sequent}
-use Rattle.mp_match.proofs.Apart.{Apart, Below, Apart-to, Apart-left, Below-to, Below-left}
+use Rattle.mp_match.specs.Spread.{IsSpread}
+use Rattle.mp_match.specs.Walks.{sizes_of, items_found, first_walk, concl_found, match_of}
+use Rattle.mp_term.specs.Subst.{widest_in_sequent}
+use Rattle.mp_schema.proofs.Apart.{Apart, Below, Apart-to, Apart-left, Below-to, Below-left}
 use Rattle.mp_match.proofs.Ended.{end-laid, end-next}
 use Rattle.mp_match.proofs.Laid.{ground-variables, ground-apart, ground-below, ctx-none}
 use Rattle.mp_match.proofs.Ready.{before-all}
 use Rattle.mp_match.proofs.SequentSizes.{given-two, sizes-counted}
-
--- the variables of the schema's contexts are distinct hypotheses of the goal, and other names have none
-pub record IsSpread (i : Inst) (s : Schema) (goal : Sequent) : Type 0 where
-  pub distinct : (names : List Sym) → is_known (past_all s.items nothing_before).contexts names ≡ true → IsDistinct nat_eq (variables_of i.ctxs names)
-  pub below : (names : List Sym) → All (λ l. l < length goal.hyps) (variables_of i.ctxs names)
-  pub few : (name : Sym) → length (kept_of i.ctxs name) ≤ length goal.hyps
-  pub others : (name : Sym) → has (past_all s.items nothing_before).contexts name ≡ false → find_ctx i.ctxs name ≡ None
 
 module _ (s : Schema) (first : Option ℕ) (goal : Sequent) (conclusion : IsTrue (is_conclusion s)) (two : IsSome first ↔ IsTrue (has_two_contexts s))
     (scoped : IsTrue (sequent_in_scope_of goal)) (narrow : widest_in_sequent goal < 2 ^ 31) where
@@ -63,3 +59,11 @@ module _ (s : Schema) (first : Option ℕ) (goal : Sequent) (conclusion : IsTrue
       (sizes_of s.items first (length goal.hyps)) i e (λ sizes shares rest.
       option_and_then_some (concl_found s.concl goal.concl) (items_found sizes goal.hyps s.items first_walk) i rest (λ w walked k.
       spread_concl sizes shares w walked (found_in (ground_of w.place) s.concl (levels_at w.place w.place.next) w.place.next goal.concl w.found) i k))
+
+  spreads : (o : Option Inst) → match_of s first goal ≡ o → IfSome o (λ i. IsSpread i s goal)
+  spreads None e = tt
+  spreads (Some i) e = match_spreads i e
+
+  pub sequent-spread-ok : {E : Type 0} (r : Result (Option Inst) E) → IfOk r (λ i. i ≡ match_of s first goal) → IfOk r (λ o. IfSome o (λ i. IsSpread i s goal))
+  sequent-spread-ok (Ok i) h = rw h (spreads (match_of s first goal) refl)
+  sequent-spread-ok (Err e) h = tt

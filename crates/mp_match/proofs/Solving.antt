@@ -7,7 +7,7 @@ use Rattle.mp_schema.specs.declared.instance.ParamVal.{ParamVal}
 use Rattle.mp_schema.specs.Instances.{Values}
 use Rattle.mp_schema.specs.Values.{find_meta, find_param}
 use Rattle.mp_match.specs.declared.place.Found.{Found}
-use Rattle.mp_match.proofs.Equal.{decided, same_name, same_name-refl}
+use Rattle.mp_term.proofs.EqualTerms.{decided, same_name, same_name-refl}
 
 -- the values are those found
 pub record Meets (v : Values) (f : Found) : Type 0 where

@@ -6,15 +6,15 @@ use Rattle.mp_term.specs.declared.term.Param.{Param}
 use Rattle.mp_term.specs.declared.term.Term.{Term, Var}
 use Rattle.mp_term.specs.declared.term.Bound.{Bound}
 use Rattle.mp_term.specs.Terms.{in_scope_of}
-use Rattle.mp_subst.specs.Subst.{sub_of, unrenamed, IsRenaming}
-use Rattle.mp_subst.proofs.SubLaws.{under-none}
-use Rattle.mp_subst.proofs.Renaming.{unrenamed-sub, sub-unrenamed}
+use Rattle.mp_term.specs.Subst.{sub_of, unrenamed, IsRenaming}
+use Rattle.mp_term.proofs.SubLaws.{under-none}
+use Rattle.mp_term.proofs.Renaming.{unrenamed-sub, sub-unrenamed}
 use Rattle.mp_schema.specs.declared.pattern.ParamPat.{ParamPat}
 use Rattle.mp_schema.specs.declared.instance.MetaVal.{MetaVal}
 use Rattle.mp_schema.specs.Values.{find_meta}
 use Rattle.mp_match.specs.declared.place.Found.{Found}
 use Rattle.mp_match.specs.Matching.{param_found, params_found, BoundMatcher, all_found, value_found, meta_found}
-use Rattle.mp_match.proofs.Equal.{same-tested}
+use Rattle.mp_term.proofs.EqualTerms.{same-tested}
 
 params_none : (qs : List ParamPat) (ps : List Param) → ((f : Found) → params_found qs ps f ≡ None) → (o : Option Found) → option_and_then (params_found qs ps) o ≡ None
 params_none qs ps h None = refl

@@ -1,56 +1,16 @@
 -- The hypotheses of a context are determined by their terms.
 use Rattle.std.proofs.Common.{◌≡◌, ℕ, ◌+◌, ◌<◌, List, [], ◌∷◌, ◌++◌, length, map, suc, true, nat_eq, IsTrue, All, Option, Some, None, append_assoc, append-nil, add-one, refl, sym, ap, ◌∙◌, arith}
 use Rattle.std.specs.List.{IsDistinct}
-use Rattle.std.proofs.lemmas.List.{map-append, length-append}
+use Rattle.std.proofs.lemmas.List.{length-append}
 use Rattle.mp_logic.specs.declared.sym.Sym.{Sym}
 use Rattle.mp_term.specs.declared.term.Term.{Term, Var}
 use Rattle.mp_term.specs.Terms.{in_scope_of}
 use Rattle.mp_term.specs.Limits.{in_scopes_from}
-use Rattle.mp_subst.specs.Subst.{sub_of, variables, unrenamed}
-use Rattle.mp_schema.specs.declared.pattern.Pattern.{Pattern}
-use Rattle.mp_schema.specs.Instances.{upto, made_each, inst_of}
-use Rattle.mp_schema.specs.Sequents.{Instance, Spot, telescope, ground_at}
-use Rattle.mp_schema.specs.Conditions.{Seen, seen, all_variables}
-use Rattle.mp_match.specs.Matching.{argument}
+use Rattle.mp_term.specs.Subst.{sub_of, unrenamed}
 use Rattle.mp_match.specs.Walks.{kept_with, kept_found}
-use Rattle.mp_match.proofs.Equal.{both_true, and_true}
-use Rattle.mp_match.proofs.Ranges.{upto-next, map-Var-upto}
-use Rattle.mp_match.proofs.Kept.{next-distinct, next-below}
+use Rattle.mp_term.proofs.EqualTerms.{both_true, and_true}
+use Rattle.mp_schema.proofs.Rows.{placed_from, next-distinct, next-below}
 use Rattle.mp_match.proofs.Steps.{undone, restored}
-use Rattle.mp_match.proofs.PatternLaws.{args-made}
-
--- the terms over these variables, each of them and those of the context before it
-abbrev pub placed_from : List ℕ → ℕ → List Term → List Term
-placed_from levels m [] = []
-placed_from levels m (u ∷ us) = sub_of u (map Var levels) m ∷ placed_from (levels ++ m ∷ []) (m + 1) us
-
--- a telescope, where the arguments are variables
-module _ (v : Instance) (l : Spot) (ctxs : List Sym) (args : List Pattern) (c : ℕ) (variables' : all_variables (length l.env) (map seen args) ≡ true) where
-  abbrev telescope_levels : List ℕ
-  telescope_levels = ground_at v l.pos ctxs ++ map (λ (a : Seen). argument l.env a.level) (map seen args)
-
-  levels-is : (j : ℕ) → map Var (ground_at v l.pos ctxs) ++ made_each (map (inst_of (ground_at v l.pos) v.values) args) (map Var l.env) (c + j) ++ variables c j
-      ≡ map Var (telescope_levels ++ upto c j)
-  levels-is j =
-      let made = args-made (ground_at v l.pos) v.values l.env (c + j) args variables' in
-      rw made
-      (sym (map-append Var telescope_levels (upto c j)
-      ∙ ap (λ xs. xs ++ map Var (upto c j)) (map-append Var (ground_at v l.pos ctxs) (map (λ (a : Seen). argument l.env a.level) (map seen args)))
-      ∙ ap (λ xs. map Var (ground_at v l.pos ctxs) ++ map Var (map (λ (a : Seen). argument l.env a.level) (map seen args)) ++ xs) (map-Var-upto c j)))
-
-  one_more : (j : ℕ) → telescope_levels ++ upto c (suc j) ≡ telescope_levels ++ upto c j ++ (c + j) ∷ []
-  one_more j = ap (λ xs. telescope_levels ++ xs) (rw add-one at (upto-next c j)) ∙ sym (append_assoc telescope_levels (upto c j) ((c + j) ∷ []))
-
-  telescope-at : (j : ℕ) (us : List Term) → telescope v l ctxs args c j us ≡ placed_from (telescope_levels ++ upto c j) (c + j) us
-  telescope-at j [] = refl
-  telescope-at j (u ∷ us) =
-      let e : c + suc j ≡ c + j + 1 = omega arith in
-      rw (levels-is j, telescope-at (suc j) us, one_more j, e) refl
-
-  pub telescope-placed : (us : List Term) → telescope v l ctxs args c 0 us ≡ placed_from telescope_levels c us
-  telescope-placed us =
-      let e : c + 0 ≡ c = omega arith in
-      rw (append-nil telescope_levels, e) at (telescope-at 0 us)
 
 abbrev Parts : List ℕ → ℕ → List Term → List Term → Type 0
 Parts levels m ts us = (placed_from levels m us ≡ ts) × IsTrue (in_scopes_from (length levels) us)

@@ -15,11 +15,11 @@ use Rattle.mp_match.specs.Covering.{is_covered}
 use Rattle.mp_match.specs.Matching.{found_in}
 use Rattle.mp_match.specs.Matches.{nothing_found, as_instance, term_place, term_match}
 use Rattle.mp_match.specs.Places.{ground_of, levels_at, IsUsable}
-use Rattle.mp_match.specs.Solutions.{Agrees, GivesTerm, IsTermInstance, ambient_only}
-use Rattle.mp_match.proofs.Apart.{Apart-to, Below-to, Apart-upto, Below-upto}
-use Rattle.mp_match.proofs.Ranges.{length-upto}
+use Rattle.mp_schema.specs.Solutions.{Agrees, GivesTerm, IsTermInstance, ambient_only}
+use Rattle.mp_schema.proofs.Apart.{Apart-to, Below-to, Apart-upto, Below-upto}
+use Rattle.mp_schema.proofs.Ranges.{length-upto}
 use Rattle.mp_match.proofs.CoverLaws.{pattern-covered}
-use Rattle.mp_match.proofs.KnownLists.{inst-known, fits-known}
+use Rattle.mp_schema.proofs.KnownLists.{inst-known, fits-known}
 use Rattle.mp_match.proofs.PatternLaws.{Usable, Asks, pattern-solved}
 use Rattle.mp_match.proofs.Solving.{Meets, Solves}
 

@@ -16,12 +16,13 @@ use Rattle.mp_match.specs.declared.place.Found.{Found}
 use Rattle.mp_match.specs.declared.place.Place.{Place}
 use Rattle.mp_match.specs.Matching.{found_in}
 use Rattle.mp_match.specs.Places.{ground_of, levels_at, names_of}
-use Rattle.mp_match.proofs.Equal.{both_true}
-use Rattle.mp_match.proofs.Ranges.{length-upto}
+use Rattle.mp_term.proofs.EqualTerms.{both_true}
+use Rattle.mp_schema.proofs.Ranges.{length-upto}
 use Rattle.mp_match.proofs.Laid.{IsLaid, ctx-some, ground-apart, ground-below}
-use Rattle.mp_match.proofs.KnownLists.{inst-known, fits-known}
+use Rattle.mp_schema.proofs.KnownLists.{inst-known, fits-known}
 use Rattle.mp_match.proofs.PatternLaws.{Usable, Asks, pattern-solved}
 use Rattle.mp_match.proofs.Solving.{Solves}
+use Rattle.mp_schema.proofs.Rows.{wide-ground}
 
 -- the instance has the contexts that are found
 abbrev pub HasContexts : Instance → Place → Type 0
@@ -32,19 +33,6 @@ pub record At (l : Spot) (place : Place) : Type 0 where
   pub next : l.next ≡ place.next
   pub env : l.env ≡ place.named
   pub pos : (name : Sym) → has (names_of place.ctxs) name ≡ true → l.pos name ≡ first_variable_of place.ctxs name
-
--- the widths are those of the lists
-pub wide-ground : (v : Instance) (pos : Sym → ℕ) (names : List Sym) → length (ground_at v pos names) ≡ wide_of v names
-wide-ground v pos names = length-append (upto 0 v.ambient) (joined (map (λ c. upto (pos c) (length (v.kept c))) names))
-    ∙ ap (λ k. k + length (joined (map (λ c. upto (pos c) (length (v.kept c))) names))) (length-upto 0 v.ambient)
-    ∙ ap (λ k. v.ambient + k) (joined-length names) where
-      joined-length : (names : List Sym) → length (joined (map (λ c. upto (pos c) (length (v.kept c))) names)) ≡ sum (map (λ c. length (v.kept c)) names)
-      joined-length [] = refl
-      joined-length (c ∷ names) =
-          let a = length-append (upto (pos c) (length (v.kept c))) (joined (map (λ c. upto (pos c) (length (v.kept c))) names)) in
-          let b = length-upto (pos c) (length (v.kept c)) in
-          let r = joined-length names in
-          grind (arith, common_steps, a, b, r)
 
 module _ (v : Instance) (l : Spot) (place : Place) (ambient : v.ambient ≡ 0) (laid : IsLaid place) (has-them : HasContexts v place) (at : At l place) where
   range-same : (c : Sym) → has (names_of place.ctxs) c ≡ true → upto (l.pos c) (length (v.kept c)) ≡ upto (first_variable_of place.ctxs c) (length (kept_of place.ctxs c))

@@ -17,10 +17,11 @@ use Rattle.mp_match.specs.declared.place.Walk.{Walk}
 use Rattle.mp_match.specs.declared.sizes.Sizes.{Sizes}
 use Rattle.mp_match.specs.Places.{before}
 use Rattle.mp_match.specs.Walks.{taken, size_after, past_context, context_levels, item_found, items_found}
-use Rattle.mp_match.proofs.Equal.{both_true, and_true}
+use Rattle.mp_term.proofs.EqualTerms.{both_true, and_true}
 use Rattle.mp_match.proofs.Ready.{Ready, Ready-next, Ready-room, hyp-result, ctx-result, kept-size, size_after-more}
 use Rattle.mp_match.proofs.Ties.{At}
 use Rattle.mp_match.proofs.ItemLaws.{Tied, contexts-back, hyp-sound, hyp-complete, ctx-sound, ctx-complete}
+use Rattle.mp_schema.proofs.Rows.{telescope-length}
 
 split : {X : Type 0} (xs ys : List X) → (take (length xs) (xs ++ ys) ≡ xs) × (drop (length xs) (xs ++ ys) ≡ ys)
 split [] ys = (refl, refl)
@@ -30,10 +31,6 @@ split (x ∷ xs) ys = let r = split xs ys in (ap (λ zs. x ∷ zs) r.0, r.1)
 abbrev pub IsSized : Instance → List Sym → ℕ → ℕ → Type 0
 IsSized v [] size later = Unit {0}
 IsSized v (c ∷ names) size later = (length (v.kept c) ≡ size) × IsSized v names later later
-
-pub telescope-length : (v : Instance) (l : Spot) (ctxs : List Sym) (args : List Pattern) (c j : ℕ) (us : List Term) → length (telescope v l ctxs args c j us) ≡ length us
-telescope-length v l ctxs args c j [] = refl
-telescope-length v l ctxs args c j (u ∷ us) = let r = telescope-length v l ctxs args c (suc j) us in omega (arith, r)
 
 module _ (sizes : Sizes) (hyps : List Term) (v : Instance) (ambient : v.ambient ≡ 0) where
   placed-here : (i : Item) (is : List Item) (place : Place) → Ready sizes hyps (i ∷ is) place → item_placed i (before place) ≡ true

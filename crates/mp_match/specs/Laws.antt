@@ -15,12 +15,9 @@ use Rattle.mp_schema.specs.Values.{find_meta}
 use Rattle.mp_match.specs.Covering.{is_covered, schema_covered}
 use Rattle.mp_match.specs.Giving.{with_value}
 use Rattle.mp_match.specs.Matches.{term_match}
-use Rattle.mp_match.specs.Solutions.{Agrees, IsTermInstance, IsInstance}
-use Rattle.mp_match.specs.Walks.{match_of, widest_in_sequent}
-
--- no scope in a goal within limits is wide, if no subterm has more than 8 binders
-abbrev pub GoalsAreNarrow : Type 0
-GoalsAreNarrow = (s : Sequent) → IsTrue (within_limits_of s) → IsTrue (sequent_few_binders_of s) → widest_in_sequent s ≤ 1800
+use Rattle.mp_schema.specs.Solutions.{Agrees, IsTermInstance, IsInstance}
+use Rattle.mp_match.specs.Walks.{match_of}
+use Rattle.mp_term.specs.Subst.{widest_in_sequent}
 
 -- a match is the instance, and has a value for each name
 abbrev pub MatchesAreInstances : Type 0

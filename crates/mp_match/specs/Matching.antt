@@ -6,7 +6,7 @@ use Rattle.mp_term.specs.declared.term.Param.{Param}
 use Rattle.mp_term.specs.declared.term.Term.{Term, Term-F, out-Term}
 use Rattle.mp_term.specs.declared.term.Bound.{Bound}
 use Rattle.mp_term.specs.declared.term.Term.TheOpen as term_layer
-use Rattle.mp_subst.specs.Subst.{unrenamed}
+use Rattle.mp_term.specs.Subst.{unrenamed}
 use Rattle.mp_schema.specs.declared.instance.MetaVal.{MetaVal}
 use Rattle.mp_schema.specs.declared.instance.ParamVal.{ParamVal}
 use Rattle.mp_schema.specs.declared.pattern.ParamPat.{ParamPat}
@@ -16,10 +16,10 @@ use Rattle.mp_schema.specs.declared.pattern.PBound.{PBound, PBound-F}
 use Rattle.mp_schema.specs.declared.pattern.Pattern.TheOpen as layer
 use Rattle.mp_schema.specs.declared.pattern.Pattern.TheFolds.{fold-Pattern, fold-PBound}
 use Rattle.mp_schema.specs.Instances.{Ground, upto}
-use Rattle.mp_schema.specs.Conditions.{or_zero}
+use Rattle.mp_schema.specs.Conditions.{argument}
 use Rattle.mp_schema.specs.Values.{find_meta, find_param}
 use Rattle.mp_match.specs.declared.place.Found.{Found}
-use Rattle.mp_match.specs.Equality.{same_param, same_term, is_level}
+use Rattle.mp_term.specs.Equality.{same_param, same_term, is_level}
 
 -- ## Parameters
 
@@ -77,10 +77,6 @@ abbrev pub op_found : Sym → List ParamPat → List BoundMatcher → List ℕ �
 op_found op params subs levels scope found (term_layer.Var level) = None
 op_found op params subs levels scope found (term_layer.Op other values bodies) =
     if nat_eq op.0 other.0 then option_and_then (all_found subs levels scope bodies) (params_found params values found) else None
-
--- the variable of an argument
-abbrev pub argument : List ℕ → Option ℕ → ℕ
-argument levels level = slice_index_or levels (or_zero level) 0
 
 module _ (front : Ground) where
   -- what one layer of a pattern is to a match, from what its parts are

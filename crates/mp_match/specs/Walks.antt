@@ -4,19 +4,19 @@ use Rattle.std.specs.Option.{option_map}
 use Rattle.mp_logic.specs.declared.sym.Sym.{Sym}
 use Rattle.mp_term.specs.declared.term.Term.{Term}
 use Rattle.mp_term.specs.declared.sequent.Sequent.{Sequent}
-use Rattle.mp_subst.specs.Subst.{unrenamed, widest_of}
+use Rattle.mp_term.specs.Subst.{unrenamed, widest_of}
 use Rattle.mp_schema.specs.declared.instance.CtxVal.{CtxVal}
 use Rattle.mp_schema.specs.declared.instance.Inst.{Inst}
 use Rattle.mp_schema.specs.declared.pattern.Pattern.{Pattern}
 use Rattle.mp_schema.specs.declared.schema.Item.{Item}
 use Rattle.mp_schema.specs.declared.schema.Item.TheVariants.{Ctx, Hyp}
 use Rattle.mp_schema.specs.declared.schema.Schema.{Schema}
-use Rattle.mp_schema.specs.Conditions.{Seen, seen, contexts_among}
+use Rattle.mp_schema.specs.Conditions.{Seen, seen, contexts_among, argument}
 use Rattle.mp_match.specs.declared.place.Found.{Found}
 use Rattle.mp_match.specs.declared.place.Place.{Place}
 use Rattle.mp_match.specs.declared.place.Walk.{Walk}
 use Rattle.mp_match.specs.declared.sizes.Sizes.{Sizes}
-use Rattle.mp_match.specs.Matching.{argument, found_in}
+use Rattle.mp_match.specs.Matching.{found_in}
 use Rattle.mp_match.specs.Matches.{nothing_found, as_instance}
 use Rattle.mp_match.specs.Places.{ground_of, levels_at}
 
@@ -120,12 +120,3 @@ abbrev pub match_of : Schema → Option ℕ → Sequent → Option Inst
 match_of s first goal =
     option_and_then (λ (sizes : Sizes). option_and_then (concl_found s.concl goal.concl) (items_found sizes goal.hyps s.items first_walk))
     (sizes_of s.items first (length goal.hyps))
-
--- the widest scope in terms of which the first is in scope m, the next in scope m + 1, and so on; or the scope after them
-abbrev pub widest_from : ℕ → List Term → ℕ
-widest_from m [] = m
-widest_from m (t ∷ ts) = max (widest_of t m) (widest_from (m + 1) ts)
-
--- the widest scope in a goal
-abbrev pub widest_in_sequent : Sequent → ℕ
-widest_in_sequent s = max (widest_from 0 s.hyps) (widest_of s.concl (length s.hyps))

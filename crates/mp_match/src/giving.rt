@@ -1,7 +1,7 @@
 ghost use Rattle.std.specs.Prelude.{◌≡◌, ◌↔◌, ◌+◌, ◌<◌, ◌^◌, nat_eq, IsTrue, IsFalse, IfOk, OnErr, All, if◌then◌else◌};
 ghost use Rattle.std.specs.List.{IsDistinct};
 ghost use Rattle.mp_term.specs.Terms.{in_scope_of};
-ghost use Rattle.mp_subst.specs.Subst.{widest_of};
+ghost use Rattle.mp_term.specs.Subst.{widest_of};
 ghost use Rattle.mp_schema.specs.Values.{find_meta, variables_of};
 ghost use Rattle.mp_match.specs.Giving.{given_to, IsGiven, NamesOnly};
 

@@ -2,10 +2,10 @@ ghost use Rattle.std.specs.Prelude.{◌≡◌, ◌+◌, ◌<◌, ◌≤◌, ◌^
 ghost use Rattle.std.specs.List.{IsDistinct};
 ghost use Rattle.mp_term.specs.Terms.{in_scope_of};
 ghost use Rattle.mp_term.specs.Limits.{in_scopes_from};
-ghost use Rattle.mp_subst.specs.Subst.{widest_of};
+ghost use Rattle.mp_term.specs.Subst.{widest_of, widest_from};
 ghost use Rattle.mp_schema.specs.Conditions.{seen, args_fine, is_known, lists_known, each_item, item_placed, item_fine, nothing_before};
 ghost use Rattle.mp_match.specs.Places.{before, names_of, IsUsable};
-ghost use Rattle.mp_match.specs.Walks.{taken, needed, hyp_found, kept_found, context_found, item_found, items_found, first_walk, widest_from};
+ghost use Rattle.mp_match.specs.Walks.{taken, needed, hyp_found, kept_found, context_found, item_found, items_found, first_walk};
 
 use crate::levels::levels_of;
 use crate::patterns::match_within;

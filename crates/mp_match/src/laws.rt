@@ -1,8 +1,7 @@
-ghost use Rattle.mp_match.specs.Laws.{GoalsAreNarrow, MatchesAreInstances, TermMatchesAreInstances, AgreeingTerms, AgreeingSequents, AgreesWithOneMore};
+ghost use Rattle.mp_match.specs.Laws.{MatchesAreInstances, TermMatchesAreInstances, AgreeingTerms, AgreeingSequents, AgreesWithOneMore};
 
 /// What matching finds, as laws of its functions. It does nothing: its contract is the laws.
 pub fn match_laws()
-    ensures narrow { GoalsAreNarrow }
     ensures sequents { MatchesAreInstances }
     ensures terms { TermMatchesAreInstances }
 {}

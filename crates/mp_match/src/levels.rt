@@ -1,7 +1,7 @@
 ghost use Rattle.std.specs.Prelude.{◌≡◌, ◌+◌, ◌-◌, ◌<◌, ◌≤◌, ◌^◌, ◌++◌, ℕ, map, length, IsTrue, All, IfOk, OnOk, slice_index_or};
 ghost use Rattle.mp_schema.specs.Instances.{upto};
 ghost use Rattle.mp_schema.specs.Conditions.{seen, Seen, all_variables, or_zero};
-ghost use Rattle.mp_match.specs.Matching.{argument};
+ghost use Rattle.mp_schema.specs.Conditions.{argument};
 ghost use Rattle.mp_match.specs.Places.{ground_of, levels_at, EndsBelow, IsUsable};
 ghost use Rattle.mp_schema.specs.Values.{variables_of};
 

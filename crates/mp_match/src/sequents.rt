@@ -2,9 +2,12 @@ ghost use Rattle.std.specs.Prelude.{◌≡◌, ◌<◌, ◌^◌, ◌↔◌, IsTr
 ghost use Rattle.mp_term.specs.Limits.{sequent_in_scope_of};
 ghost use Rattle.mp_schema.specs.Conditions.{is_conclusion, has_two_contexts};
 ghost use Rattle.mp_match.specs.Covering.{schema_covered};
-ghost use Rattle.mp_match.specs.Solutions.{IsInstance};
-ghost use Rattle.mp_match.specs.Walks.{match_of, widest_in_sequent};
+ghost use Rattle.mp_schema.specs.Solutions.{IsInstance};
+ghost use Rattle.mp_match.specs.Spread.{IsSpread};
+ghost use Rattle.mp_match.specs.Walks.{match_of};
+ghost use Rattle.mp_term.specs.Subst.{widest_in_sequent};
 
+use crate::heads::has_head_of;
 use crate::items::match_items;
 use crate::matching::instance_at;
 use crate::patterns::match_within;
@@ -25,7 +28,8 @@ use std::alloc::Global;
 ///
 /// A context's size is what the named hypotheses and the other context leave, and there is no instance where it would be
 /// negative. Where there is no context, the goal must have as many hypotheses as the schema. One walk over the items and
-/// the goal, and one copy of what each second-order variable and each context stands for.
+/// the goal, and one copy of what each second-order variable and each context stands for; where the conclusions have
+/// unlike operators, nothing but these is looked at.
 pub fn match_sequent(
     alloc: Global,
     concl: &Schema,
@@ -36,9 +40,9 @@ pub fn match_sequent(
     requires sized { IsSome first ↔ IsTrue (has_two_contexts concl.now) }
     requires scoped { IsTrue (sequent_in_scope_of goal.now) }
     requires narrow { widest_in_sequent goal.now < 2 ^ 31 }
-    ensures value { IfOk result (λ r. r ≡ match_of concl.now first goal.now) }
     ensures instance { IfOk result (IsInstance concl.now first goal.now) }
     ensures covers { IfOk result (λ r. IfSome r (λ i. IsTrue (schema_covered i concl.now))) }
+    ensures spread { IfOk result (λ r. IfSome r (λ i. IsSpread i concl.now goal.now)) }
 {
     sequent_found(alloc, concl, first, goal)
 }
@@ -55,6 +59,10 @@ fn sequent_found(
     requires narrow { widest_in_sequent goal.now < 2 ^ 31 }
     ensures { IfOk result (λ r. r ≡ match_of concl.now first goal.now) }
 {
+    // Most rules that don't fit show it here, before anything is copied.
+    if !has_head_of(&concl.concl, &goal.concl) {
+        return Ok(None);
+    }
     let hyps = goal.hyps.as_slice();
     let Some(sizes) = context_sizes(&concl.items, first, hyps.len() as u32) else {
         return Ok(None);

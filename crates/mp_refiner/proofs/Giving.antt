@@ -8,9 +8,9 @@ use Rattle.mp_logic.specs.declared.sym.Sym.{Sym}
 use Rattle.mp_term.specs.declared.term.Term.{Term}
 use Rattle.mp_term.specs.Terms.{in_scope_of, depth_of}
 use Rattle.mp_term.specs.Limits.{few_binders_of}
-use Rattle.mp_subst.specs.Subst.{widest_of, unrenamed}
-use Rattle.mp_subst.proofs.SubLaws.{drop-at}
-use Rattle.mp_subst.proofs.BinderLaws.{width_few}
+use Rattle.mp_term.specs.Subst.{widest_of, unrenamed}
+use Rattle.mp_term.proofs.SubLaws.{drop-at}
+use Rattle.mp_term.proofs.Laws.{width_of_few_binders}
 use Rattle.mp_schema.specs.declared.instance.Inst.{Inst}
 use Rattle.mp_schema.specs.declared.instance.MetaVal.{MetaVal}
 use Rattle.mp_schema.specs.Values.{find_meta}
@@ -20,9 +20,10 @@ use Rattle.mp_theory.specs.declared.just.Given.{Given}
 use Rattle.mp_theory.specs.Needs.{is_needed}
 use Rattle.mp_refiner.specs.Ready.{AreNew}
 use Rattle.mp_refiner.specs.laws.Given.{new_more}
-use Rattle.mp_refiner.specs.laws.Lists.{value_or}
+use Rattle.mp_schema.proofs.Lists.{value_or}
 use Rattle.mp_theory.specs.Allowed.{is_for, are_for}
 use Rattle.mp_refiner.specs.Steps.{given_all}
+use Rattle.mp_refiner.specs.laws.Asked.{IsForNeed}
 
 abbrev pub given_of : Need → Given → Inst → Option Inst
 given_of n g i = given_to i n.name n.ctxs n.arity g.body
@@ -61,25 +62,9 @@ for-at (x ∷ ns) (y ∷ gs) (suc place) n g h lt n_is g_is =
     let rest : IsTrue (are_for ns gs) = grind (arith, common_steps, h) in
     for-at ns gs place n g rest (omega arith) n_is g_is
 
--- what a given term keeps
-pub record IsGiven (n : Need) (g : Given) : Type 0 where
-  pub name : n.name.0 ≡ g.name.0
-  pub arity : n.arity ≡ g.arity
-  pub scoped : IsTrue (in_scope_of g.body (200 + n.arity))
-  pub shallow : depth_of g.body ≤ 200
-  pub few : IsTrue (few_binders_of g.body)
-
-pub given_facts : (n : Need) (g : Given) → IsTrue (is_for n g) → IsGiven n g
-given_facts n g h = record {
-  name = grind (arith, nat_tests, common_steps, h);
-  arity = grind (arith, nat_tests, common_steps, h);
-  scoped = grind (arith, nat_tests, common_steps, h);
-  shallow = grind (arith, nat_tests, common_steps, h);
-  few = grind (arith, nat_tests, common_steps, h);
-}
-
-pub given_narrow : (n : Need) (g : Given) → n.arity ≤ 8 → IsGiven n g → widest_of g.body (200 + n.arity) < 2 ^ 31
-given_narrow n g few h = let w = width_few g.body (200 + n.arity) h.few in let d = h.shallow in omega arith
+-- no scope in a given term is wide
+pub given_narrow : (n : Need) (g : Given) → n.arity ≤ 8 → IsForNeed n g → widest_of g.body (200 + n.arity) < 2 ^ 31
+given_narrow n g few h = let w = width_of_few_binders g.body (200 + n.arity) h.few in let d = h.shallow in omega arith
 
 made-ctxs : (i new : Inst) (name : Sym) (scope : ℕ) (o : Option Term) → Some new ≡ option_map (with_value i name scope) o → new.ctxs ≡ i.ctxs
 made-ctxs i new name scope None e = absurd cc

@@ -6,7 +6,7 @@ use Rattle.std.proofs.lemmas.Grind.{common_steps}
 use Rattle.mp_logic.specs.declared.logic.Why.TheVariants.{TooLarge}
 use Rattle.mp_term.specs.declared.sequent.Sequent.{Sequent}
 use Rattle.mp_term.specs.Limits.{within_limits_of}
-use Rattle.mp_subst.proofs.SubLaws.{drop-at}
+use Rattle.mp_term.proofs.SubLaws.{drop-at}
 use Rattle.mp_schema.specs.declared.schema.Schema.{Schema}
 use Rattle.mp_refiner.specs.Steps.{limited}
 

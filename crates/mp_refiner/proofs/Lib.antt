@@ -1,4 +1,3 @@
-pub mod Alike
 pub mod Giving
 pub mod Kids
 pub mod Once

@@ -1,6 +1,6 @@
 -- From what the parts of a step answer to the step.
-use Rattle.std.proofs.Common.{◌≡◌, ℕ, List, map, Bool, true, Option, Some, None, if◌then◌else◌, All, sym, ap, ◌∙◌, subst}
-use Rattle.std.specs.Prelude.{Result, Ok, Err, IfOk, length}
+use Rattle.std.proofs.Common.{◌≡◌, ℕ, List, map, Bool, true, false, Option, Some, None, if◌then◌else◌, All, sym, ap, ◌∙◌, subst}
+use Rattle.std.specs.Prelude.{Result, Ok, Err, IfOk, IfSome, IsTrue, length}
 use Rattle.mp_logic.specs.declared.logic.StepErr.{StepErr}
 use Rattle.mp_logic.specs.Steps.{Outcome, IsAnswer}
 use Rattle.mp_term.specs.declared.sequent.Sequent.{Sequent}
@@ -8,56 +8,83 @@ use Rattle.mp_schema.specs.declared.instance.Inst.{Inst}
 use Rattle.mp_schema.specs.declared.schema.Schema.{Schema}
 use Rattle.mp_schema.specs.Sequents.{seq}
 use Rattle.mp_schema.specs.Values.{instance_of}
-use Rattle.mp_match.specs.Walks.{match_of}
+use Rattle.mp_schema.specs.Solutions.{IsInstance}
+use Rattle.mp_match.specs.Covering.{schema_covered}
+use Rattle.mp_match.specs.Spread.{IsSpread}
 use Rattle.mp_theory.specs.declared.rule.Need.{Need}
 use Rattle.mp_theory.specs.declared.rule.Rule.{Rule}
 use Rattle.mp_theory.specs.declared.just.Given.{Given}
 use Rattle.mp_theory.specs.Needs.{needs_of}
 use Rattle.mp_theory.specs.Tables.{IsRule}
 use Rattle.mp_refiner.specs.Ready.{IsUsable, AreNew, IsReady}
-use Rattle.mp_refiner.specs.Steps.{given_all, limited, outcome_given, outcome_matched, outcome_of}
+use Rattle.mp_refiner.specs.Steps.{given_all, limited, outcome_given, outcome_of}
 use Rattle.mp_refiner.specs.laws.Asked.{IsAsked, need_usable, needs_new}
 use Rattle.mp_refiner.specs.laws.Filled.{gives_made}
 use Rattle.mp_refiner.specs.laws.Goods.{ready, AreGood, rule_keeps_good}
-use Rattle.mp_refiner.specs.laws.Lists.{in-all}
+use Rattle.mp_schema.proofs.Lists.{in-all}
+use Rattle.mp_refiner.specs.laws.Matched.{IsMatch}
+use Rattle.mp_refiner.proofs.Whole.{given_is, one_outcome, no_instance}
+use Rattle.mp_logic.specs.declared.logic.Why.TheVariants.{NoMatch, BadArgument}
+use Rattle.mp_theory.specs.Allowed.{is_allowed_at}
 use Rattle.mp_refiner.specs.laws.Widths.{AtMost, rule_narrow}
 
-module _ (rule : Rule) (first : Option ℕ) (given : List Given) (goal : Sequent) (whole : IsRule rule) (a : IsAsked rule.premises rule.concl first given goal)
-    (matched : Option Inst) (i : Inst) (found : matched ≡ match_of rule.concl first goal) (some : matched ≡ Some i) (ns : List Need) (needs : ns ≡ rule.needs) where
-  is : match_of rule.concl first goal ≡ Some i
-  is = sym found ∙ some
+-- the match that is answered
+pub match_made : (s : Schema) (first : Option ℕ) (goal : Sequent) (matched : Option Inst) (i : Inst) → matched ≡ Some i → IsInstance s first goal matched →
+    IfSome matched (λ j. IsTrue (schema_covered j s)) → IfSome matched (λ j. IsSpread j s goal) → IsMatch s first goal i
+match_made s first goal matched i some whole covers spread = record {
+  whole = subst (IsInstance s first goal) some whole;
+  covers = subst (λ o. IfSome o (λ j. IsTrue (schema_covered j s))) some covers;
+  spread = subst (λ o. IfSome o (λ j. IsSpread j s goal)) some spread;
+}
 
-  same_needs : ns ≡ needs_of rule.premises rule.concl
-  same_needs = needs ∙ whole.needs
+module _ (rule : Rule) (first : Option ℕ) (given : List Given) (goal : Sequent) (whole : IsRule rule) (allowed : IsTrue (is_allowed_at (Some rule) first given))
+    (a : IsAsked rule.premises rule.concl first given goal) where
+  -- no instance gives the goal
+  pub none_answer : (matched : Option Inst) → matched ≡ None → IsInstance rule.concl first goal matched → outcome_of rule first given goal ≡ Err NoMatch
+  none_answer matched e h = no_instance rule first given goal whole.needs allowed a (subst (IsInstance rule.concl first goal) e h)
 
-  pub usable_needs : All (IsUsable i.ctxs) ns
-  usable_needs =
-      subst (All (IsUsable i.ctxs)) (sym same_needs)
-      (in-all (IsUsable i.ctxs) (needs_of rule.premises rule.concl) (need_usable rule.premises rule.concl first given goal a i is))
+  module _ (i : Inst) (is : IsMatch rule.concl first goal i) (ns : List Need) (needs : ns ≡ rule.needs) where
+    same_needs : ns ≡ needs_of rule.premises rule.concl
+    same_needs = needs ∙ whole.needs
 
-  pub new_needs : AreNew i.metas ns
-  new_needs = subst (AreNew i.metas) (sym same_needs) (needs_new rule.premises rule.concl first given goal a i is)
+    pub usable_needs : All (IsUsable i.ctxs) ns
+    usable_needs =
+        subst (All (IsUsable i.ctxs)) (sym same_needs)
+        (in-all (IsUsable i.ctxs) (needs_of rule.premises rule.concl) (need_usable rule.premises rule.concl first given goal a i is))
 
-  module _ (new : Inst) (gs : List Given) (terms : gs ≡ given) (done : Bool) (told : (if done then Some new else None) ≡ given_all ns gs i) (went : done ≡ true) where
-    all : given_all (needs_of rule.premises rule.concl) given i ≡ Some new
-    all =
-        ap (λ (ms : List Need). given_all ms given i) (sym same_needs) ∙ ap (λ hs. given_all ns hs i) (sym terms) ∙ sym told
-        ∙ ap (λ (b : Bool). if b then Some new else None) went
+    pub new_needs : AreNew i.metas ns
+    new_needs = subst (AreNew i.metas) (sym same_needs) (needs_new rule.premises rule.concl first given goal a i is)
 
-    pub closed_new : new.ambient ≡ 0
-    closed_new = (gives_made rule.premises rule.concl first given goal a i is new all).ambient
+    module _ (new : Inst) (gs : List Given) (terms : gs ≡ given) (done : Bool) (told : (if done then Some new else None) ≡ given_all ns gs i) where
+      given_told : (if done then Some new else None) ≡ given_all (needs_of rule.premises rule.concl) given i
+      given_told = told ∙ ap (λ hs. given_all ns hs i) terms ∙ ap (λ (ms : List Need). given_all ms given i) same_needs
 
-    pub ready_premises : (ps : List Schema) → ps ≡ rule.premises → All (IsReady (instance_of new)) ps
-    ready_premises ps same =
-        subst (All (IsReady (instance_of new))) (sym same)
-        (in-all (IsReady (instance_of new)) rule.premises (ready rule.premises rule.concl first given goal a i is new all))
+      -- some given term isn't a value of its need
+      pub bad_answer : done ≡ false → outcome_of rule first given goal ≡ Err BadArgument
+      bad_answer e =
+          let none : given_all (needs_of rule.premises rule.concl) given i ≡ None = sym given_told ∙ ap (λ (b : Bool). if b then Some new else None) e in
+          one_outcome rule first given goal whole.needs allowed a (outcome_given rule (given_all (needs_of rule.premises rule.concl) given i)) (given_is rule first given goal whole.needs allowed a i is)
+          ∙ ap (outcome_given rule) none
 
-    pub step_answer : (ps : List Schema) → ps ≡ rule.premises → (r : Result (List Sequent) StepErr) → IsAnswer (limited (map (seq (instance_of new)) ps)) r →
-        IsAnswer (outcome_of rule first given goal) r
-    step_answer ps same r answer =
-        let e : limited (map (seq (instance_of new)) ps) ≡ outcome_of rule first given goal =
-        ap (λ qs. limited (map (seq (instance_of new)) qs)) same ∙ ap (outcome_given rule) (sym all) ∙ ap (outcome_matched rule given) (sym is) in
-        subst (λ o. IsAnswer o r) e answer
+      module _ (went : done ≡ true) where
+        all : given_all (needs_of rule.premises rule.concl) given i ≡ Some new
+        all = sym given_told ∙ ap (λ (b : Bool). if b then Some new else None) went
+
+        pub closed_new : new.ambient ≡ 0
+        closed_new = (gives_made rule.premises rule.concl first given goal a i is new all).ambient
+
+        pub ready_premises : (ps : List Schema) → ps ≡ rule.premises → All (IsReady (instance_of new)) ps
+        ready_premises ps same =
+            subst (All (IsReady (instance_of new))) (sym same)
+            (in-all (IsReady (instance_of new)) rule.premises (ready rule.premises rule.concl first given goal a i is new all))
+
+        pub step_answer : (ps : List Schema) → ps ≡ rule.premises → (r : Result (List Sequent) StepErr) → IsAnswer (limited (map (seq (instance_of new)) ps)) r →
+            IsAnswer (outcome_of rule first given goal) r
+        step_answer ps same r answer =
+            let e : outcome_of rule first given goal ≡ limited (map (seq (instance_of new)) ps) =
+            one_outcome rule first given goal whole.needs allowed a (outcome_given rule (given_all (needs_of rule.premises rule.concl) given i)) (given_is rule first given goal whole.needs allowed a i is)
+            ∙ ap (outcome_given rule) all ∙ ap (λ qs. limited (map (seq (instance_of new)) qs)) (sym same) in
+            subst (λ o. IsAnswer o r) (sym e) answer
 
 -- what holds of the outcome's subgoals holds of the answer's
 answer_has : (P : List Sequent → Type 0) (o : Outcome Sequent) (r : Result (List Sequent) StepErr) → IsAnswer o r → IfOk o P → IfOk r P

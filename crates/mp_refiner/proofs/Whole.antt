@@ -1,8 +1,9 @@
 -- A step by a rule is what instances say.
-use Rattle.std.proofs.Common.{◌≡◌, inl, inr, ℕ, List, [], ◌∷◌, map, Bool, true, false, Option, Some, None, if◌then◌else◌, refl, sym, ap, ◌∙◌, subst}
+use Rattle.std.proofs.Common.{◌≡◌, inl, inr, zero, suc, ℕ, List, [], ◌∷◌, map, Bool, true, false, Option, Some, None, if◌then◌else◌, refl, sym, ap, ◌∙◌, subst, arith}
 use Rattle.std.specs.Prelude.{◌↔◌, IsTrue, Ok, Err, slice_get}
 use Rattle.std.specs.List.{list_all}
-use Rattle.mp_logic.specs.declared.logic.Why.TheVariants.{NoMatch, BadArgument, TooLarge}
+use Rattle.std.proofs.lemmas.Grind.{common_steps}
+use Rattle.mp_logic.specs.declared.logic.Why.TheVariants.{NoMatch, BadArgument, BadAddress, UnderBinder, TooLarge}
 use Rattle.mp_logic.specs.Steps.{Outcome}
 use Rattle.mp_term.specs.declared.sequent.Sequent.{Sequent}
 use Rattle.mp_term.specs.Limits.{within_limits_of}
@@ -10,55 +11,59 @@ use Rattle.mp_schema.specs.declared.instance.Inst.{Inst}
 use Rattle.mp_schema.specs.declared.schema.Schema.{Schema}
 use Rattle.mp_schema.specs.Sequents.{Instance, seq, schema_fits}
 use Rattle.mp_schema.specs.Values.{instance_of}
-use Rattle.mp_match.specs.Solutions.{Agrees, GivesGoal}
+use Rattle.mp_schema.specs.Solutions.{Agrees, GivesGoal}
 use Rattle.mp_match.specs.Walks.{match_of}
 use Rattle.mp_theory.specs.declared.rule.Rule.{Rule}
 use Rattle.mp_theory.specs.declared.just.Given.{Given}
+use Rattle.mp_theory.specs.declared.just.Just.{Just}
 use Rattle.mp_theory.specs.declared.just.Just.TheVariants as just
 use Rattle.mp_theory.specs.Needs.{needs_of}
-use Rattle.mp_theory.specs.Tables.{IsRule}
-use Rattle.mp_refiner.specs.Law.{Misgiven, LargeStep, IsStepBy}
+use Rattle.mp_theory.specs.Tables.{IsRule, AreRules}
+use Rattle.mp_refiner.specs.Law.{Misgiven, LargeStep, IsRuleStep, IsStepAt, IsStep}
 use Rattle.mp_refiner.specs.RuleStep.{MeetsAll, RuleStep}
 use Rattle.mp_theory.specs.Allowed.{is_allowed, is_allowed_at, is_good}
 use Rattle.mp_refiner.specs.Steps.{given_all, outcome_given, outcome_matched, outcome_of, outcome_at, step_of_rules}
 use Rattle.mp_refiner.specs.laws.Asked.{IsAsked, asked}
 use Rattle.mp_refiner.specs.laws.Filled.{agrees_itself, gives_first, agrees_given, gives_made, meets_made, same_kid, premise_fits}
-use Rattle.mp_refiner.specs.laws.Lists.{In, value_or, in-each, each-all}
-use Rattle.mp_refiner.specs.laws.Matched.{no_match}
+use Rattle.mp_schema.specs.Occurrences.{In}
+use Rattle.mp_schema.proofs.Lists.{value_or, in-each, each-all}
+use Rattle.mp_refiner.specs.laws.Matched.{IsMatch, no_match, some_match}
 
 abbrev kids_or : List Sequent → Outcome Sequent → List Sequent
 kids_or d (Ok kids) = kids
 kids_or d (Err e) = d
 
 module _ (rule : Rule) (first : Option ℕ) (given : List Given) (goal : Sequent) where
-  -- the outcome is what instances say
-  pub record IsStep (o : Outcome Sequent) : Type 0 where
+  -- the outcome is what instances say, and no other is
+  pub record IsSettled (o : Outcome Sequent) : Type 0 where
+    pub sound : IsRuleStep rule first given goal o
     pub kids : (kids : List Sequent) → (o ≡ Ok kids) ↔ (RuleStep rule first given goal kids × (list_all within_limits_of kids ≡ true))
     pub no_match : (o ≡ Err NoMatch) ↔ ((v : Instance) → GivesGoal rule.concl first goal v → ⊥)
     pub bad_argument : (o ≡ Err BadArgument) ↔ Misgiven rule first given goal
     pub too_large : (o ≡ Err TooLarge) ↔ LargeStep rule first given goal
 
-  module _ (needs : rule.needs ≡ needs_of rule.premises rule.concl) (a : IsAsked rule.premises rule.concl first given goal) where
-    none_case : match_of rule.concl first goal ≡ None → IsStep (Err NoMatch)
-    none_case e =
-        let none = no_match rule.concl first goal a.rule.conclusion a.two a.scoped a.narrow e in
+  module _ (needs : rule.needs ≡ needs_of rule.premises rule.concl) (allowed : IsTrue (is_allowed_at (Some rule) first given)) (a : IsAsked rule.premises rule.concl first given goal) where
+    none_case : ((v : Instance) → GivesGoal rule.concl first goal v → ⊥) → IsSettled (Err NoMatch)
+    none_case none =
         record {
+          sound = none;
           kids = λ kids. (λ k. absurd cc, λ s. absurd (none s.0.instance s.0.match));
           no_match = (λ k. none, λ h. refl);
           bad_argument = (λ k. absurd cc, λ m. absurd (none m.instance m.match));
           too_large = (λ k. absurd cc, λ l. absurd (none l.step.instance l.step.match));
         }
 
-    module _ (i : Inst) (is : match_of rule.concl first goal ≡ Some i) where
+    module _ (i : Inst) (is : IsMatch rule.concl first goal i) where
       -- an instance that gives the goal and meets the needs agrees with what is given
       agrees_with : (v : Instance) → GivesGoal rule.concl first goal v → MeetsAll v rule.concl rule.needs given →
           (new : Inst) × ((given_all (needs_of rule.premises rule.concl) given i ≡ Some new) × Agrees v new)
       agrees_with v g m = agrees_given rule.premises rule.concl first given goal a i is v g (subst (λ ns. MeetsAll v rule.concl ns given) needs m)
 
-      bad_case : given_all (needs_of rule.premises rule.concl) given i ≡ None → IsStep (Err BadArgument)
+      bad_case : given_all (needs_of rule.premises rule.concl) given i ≡ None → IsSettled (Err BadArgument)
       bad_case e =
           let none = λ (v : Instance) (g : GivesGoal rule.concl first goal v) (m : MeetsAll v rule.concl rule.needs given). unmet (agrees_with v g m) in
           record {
+            sound = record { instance = instance_of i; match = gives_first rule.premises rule.concl first given goal a i is; none = none };
             kids = λ kids. (λ k. absurd cc, λ s. absurd (none s.0.instance s.0.match s.0.meets));
             no_match = (λ k. absurd cc, λ h. absurd (h (instance_of i) (gives_first rule.premises rule.concl first given goal a i is)));
             bad_argument = (λ k. record { instance = instance_of i; match = gives_first rule.premises rule.concl first given goal a i is; none = none }, λ m. refl);
@@ -89,7 +94,7 @@ module _ (rule : Rule) (first : Option ℕ) (given : List Given) (goal : Sequent
         step_found : RuleStep rule first given goal found
         step_found = record {
           instance = made;
-          said = a.two.1;
+          allowed = allowed;
           match = gives;
           meets = subst (λ ns. MeetsAll made rule.concl ns given) (sym needs) meets;
           fits = fits;
@@ -112,8 +117,9 @@ module _ (rule : Rule) (first : Option ℕ) (given : List Given) (goal : Sequent
         met : Misgiven rule first given goal → ⊥
         met m = m.none made gives (subst (λ ns. MeetsAll made rule.concl ns given) (sym needs) meets)
 
-        given_case : (b : Bool) → list_all within_limits_of found ≡ b → IsStep (if b then Ok found else Err TooLarge)
+        given_case : (b : Bool) → list_all within_limits_of found ≡ b → IsSettled (if b then Ok found else Err TooLarge)
         given_case true e = record {
+          sound = (step_found, e);
           kids = λ kids. (
             λ k. let same : found ≡ kids = ap (kids_or found) k in
                 (subst (RuleStep rule first given goal) same step_found, ap (list_all within_limits_of) (sym same) ∙ e),
@@ -124,28 +130,68 @@ module _ (rule : Rule) (first : Option ℕ) (given : List Given) (goal : Sequent
           too_large = (λ k. absurd cc, λ l. let same = only l.kids l.step in let large = l.large in let f : list_all within_limits_of found ≡ false = rw same at large in absurd cc);
         }
         given_case false e = record {
+          sound = record { kids = found; step = step_found; large = e };
           kids = λ kids. (λ k. absurd cc, λ s. let same = only kids s.0 in let small = s.1 in let f : list_all within_limits_of found ≡ true = rw same at small in absurd cc);
           no_match = (λ k. absurd cc, λ h. absurd (h made gives));
           bad_argument = (λ k. absurd cc, λ m. absurd (met m));
           too_large = (λ k. record { kids = found; step = step_found; large = e }, λ l. refl);
         }
 
-      given_cases : (o : Option Inst) → given_all (needs_of rule.premises rule.concl) given i ≡ o → IsStep (outcome_given rule o)
+      given_cases : (o : Option Inst) → given_all (needs_of rule.premises rule.concl) given i ≡ o → IsSettled (outcome_given rule o)
       given_cases None e = bad_case e
       given_cases (Some new) e = given_case new e (list_all within_limits_of (map (seq (instance_of new)) rule.premises)) refl
 
-    matched_cases : (o : Option Inst) → match_of rule.concl first goal ≡ o → IsStep (outcome_matched rule given o)
-    matched_cases None e = none_case e
-    matched_cases (Some i) e = given_cases i e (given_all (needs_of rule.premises rule.concl) given i) refl
+      -- whichever match it is, the outcome by it is settled
+      pub given_is : IsSettled (outcome_given rule (given_all (needs_of rule.premises rule.concl) given i))
+      given_is = given_cases (given_all (needs_of rule.premises rule.concl) given i) refl
 
-    pub step_is : IsStep (outcome_of rule first given goal)
+    matched_cases : (o : Option Inst) → match_of rule.concl first goal ≡ o → IsSettled (outcome_matched rule given o)
+    matched_cases None e = none_case (no_match rule.concl first goal a.rule.conclusion a.two a.scoped a.narrow e)
+    matched_cases (Some i) e = given_is i (some_match rule.concl first goal a.rule.conclusion a.two a.scoped a.narrow i e)
+
+    pub step_is : IsSettled (outcome_of rule first given goal)
     step_is = matched_cases (match_of rule.concl first goal) refl
 
-pub whole_law : (rules : List Rule) (place : ℕ) (rule : Rule) (first : Option ℕ) (given : List Given) (goal : Sequent) → slice_get rules place ≡ Some rule → IsRule rule →
-    IsTrue (is_allowed rules (just.Rule place first given)) → IsTrue (is_good goal) → IsStepBy rules place rule first given goal
-whole_law rules place rule first given goal is whole allowed good =
-    let here : IsTrue (is_allowed_at (Some rule) first given) = ap (λ r. is_allowed_at r first given) (sym is) ∙ allowed in
-    let s = step_is rule first given goal whole.needs (asked rule first given goal here good) in
-    let e : outcome_of rule first given goal ≡ step_of_rules rules (just.Rule place first given) goal = ap (λ r. outcome_at r first given goal) (sym is) in
-    let t = subst (IsStep rule first given goal) e s in
-    record { kids = t.kids; no_match = t.no_match; bad_argument = t.bad_argument; too_large = t.too_large }
+    -- a settled outcome is what instances say, and nothing else
+    pub exactly : (o q : Outcome Sequent) → IsSettled o → (o ≡ q) ↔ IsRuleStep rule first given goal q
+    exactly o (Ok kids) s = s.kids kids
+    exactly o (Err NoMatch) s = s.no_match
+    exactly o (Err BadArgument) s = s.bad_argument
+    exactly o (Err BadAddress) s = (λ e. subst (IsRuleStep rule first given goal) e s.sound, λ k. absurd k)
+    exactly o (Err UnderBinder) s = (λ e. subst (IsRuleStep rule first given goal) e s.sound, λ k. absurd k)
+    exactly o (Err TooLarge) s = s.too_large
+
+    -- there is one settled outcome
+    pub one_outcome : (o : Outcome Sequent) → IsSettled o → outcome_of rule first given goal ≡ o
+    one_outcome o s = (exactly (outcome_of rule first given goal) o step_is).1 s.sound
+
+    -- no instance gives the goal
+    pub no_instance : ((v : Instance) → GivesGoal rule.concl first goal v → ⊥) → outcome_of rule first given goal ≡ Err NoMatch
+    no_instance none = one_outcome (Err NoMatch) (none_case none)
+
+rule-at : (rules : List Rule) (place : ℕ) (rule : Rule) → slice_get rules place ≡ Some rule → AreRules rules → IsRule rule
+rule-at [] place rule e h = absurd (grind (arith, common_steps, e))
+rule-at (r ∷ rs) zero rule e h = let same : r ≡ rule = cc in subst IsRule same h.0
+rule-at (r ∷ rs) (suc place) rule e h = rule-at rs place rule e h.1
+
+at_rule : (rules : List Rule) (place : ℕ) (first : Option ℕ) (given : List Given) (goal : Sequent) (outcome : Outcome Sequent) (o : Option Rule) → slice_get rules place ≡ o → AreRules rules →
+    IsTrue (is_allowed_at o first given) → IsTrue (is_good goal) → (outcome_at o first given goal ≡ outcome) ↔ IsStepAt o first given goal outcome
+at_rule rules place first given goal outcome None e whole allowed good = absurd cc
+at_rule rules place first given goal outcome (Some rule) e whole allowed good =
+    let r = rule-at rules place rule e whole in
+    let a = asked rule first given goal allowed good in
+    let s = step_is rule first given goal r.needs allowed a in
+    let same : outcome_at (Some rule) first given goal ≡ outcome_of rule first given goal = rw allowed refl in
+    let k = exactly rule first given goal r.needs allowed a (outcome_of rule first given goal) outcome s in
+    (λ h. k.0 (sym same ∙ h), λ h. same ∙ k.1 h)
+
+pub whole_law : (rules : List Rule) (j : Just) (goal : Sequent) (outcome : Outcome Sequent) → AreRules rules → IsTrue (is_allowed rules j) → IsTrue (is_good goal) →
+    (step_of_rules rules j goal ≡ outcome) ↔ IsStep rules j goal outcome
+whole_law rules (just.Rule place first given) goal outcome whole allowed good = at_rule rules place first given goal outcome (slice_get rules place) refl whole allowed good
+
+unallowed_at : (o : Option Rule) (first : Option ℕ) (given : List Given) (goal : Sequent) → is_allowed_at o first given ≡ false → outcome_at o first given goal ≡ Err NoMatch
+unallowed_at None first given goal e = refl
+unallowed_at (Some rule) first given goal e = rw e refl
+
+pub unallowed : (rules : List Rule) (j : Just) (goal : Sequent) → is_allowed rules j ≡ false → step_of_rules rules j goal ≡ Err NoMatch
+unallowed rules (just.Rule place first given) goal e = unallowed_at (slice_get rules place) first given goal e

@@ -1,15 +1,17 @@
 -- What the steps of a list of rules are, in terms of instances.
-use Rattle.std.specs.Prelude.{◌≡◌, ◌≤◌, ◌↔◌, ℕ, length, List, true, false, Option, Some, Ok, Err, slice_get, IsTrue}
+use Rattle.std.specs.Prelude.{◌≡◌, ◌≤◌, ◌↔◌, ℕ, length, List, true, false, Option, Some, None, Ok, Err, slice_get, IsTrue}
 use Rattle.std.specs.List.{list_all}
-use Rattle.mp_logic.specs.declared.logic.Why.TheVariants.{NoMatch, BadArgument, TooLarge}
+use Rattle.mp_logic.specs.declared.logic.Why.TheVariants.{NoMatch, BadArgument, BadAddress, UnderBinder, TooLarge}
+use Rattle.mp_logic.specs.Steps.{Outcome}
 use Rattle.mp_term.specs.declared.sequent.Sequent.{Sequent}
 use Rattle.mp_term.specs.Limits.{within_limits_of}
 use Rattle.mp_schema.specs.Sequents.{Instance}
 use Rattle.mp_theory.specs.declared.rule.Rule.{Rule}
 use Rattle.mp_theory.specs.declared.just.Given.{Given}
+use Rattle.mp_theory.specs.declared.just.Just.{Just}
 use Rattle.mp_theory.specs.declared.just.Just.TheVariants as just
-use Rattle.mp_theory.specs.Tables.{IsRule}
-use Rattle.mp_match.specs.Solutions.{GivesGoal}
+use Rattle.mp_theory.specs.Tables.{IsRule, AreRules}
+use Rattle.mp_schema.specs.Solutions.{GivesGoal}
 use Rattle.mp_refiner.specs.RuleStep.{MeetsAll, RuleStep}
 use Rattle.mp_theory.specs.Allowed.{is_allowed, is_good}
 use Rattle.mp_refiner.specs.Steps.{step_of_rules}
@@ -26,18 +28,33 @@ pub record LargeStep (rule : Rule) (first : Option ℕ) (given : List Given) (go
   pub step : RuleStep rule first given goal kids
   pub large : list_all within_limits_of kids ≡ false
 
--- a step is what instances say, in both directions
-pub record IsStepBy (rules : List Rule) (place : ℕ) (rule : Rule) (first : Option ℕ) (given : List Given) (goal : Sequent) : Type 0 where
-  pub kids : (kids : List Sequent) → (step_of_rules rules (just.Rule place first given) goal ≡ Ok kids) ↔ (RuleStep rule first given goal kids × (list_all within_limits_of kids ≡ true))
-  pub no_match : (step_of_rules rules (just.Rule place first given) goal ≡ Err NoMatch) ↔ ((v : Instance) → GivesGoal rule.concl first goal v → ⊥)
-  pub bad_argument : (step_of_rules rules (just.Rule place first given) goal ≡ Err BadArgument) ↔ Misgiven rule first given goal
-  pub too_large : (step_of_rules rules (just.Rule place first given) goal ≡ Err TooLarge) ↔ LargeStep rule first given goal
+-- what instances say of the answer to a step by a rule: the first refusal, in this order, or the subgoals
+abbrev pub IsRuleStep : Rule → Option ℕ → List Given → Sequent → Outcome Sequent → Type 0
+IsRuleStep rule first given goal (Ok kids) = RuleStep rule first given goal kids × (list_all within_limits_of kids ≡ true)
+IsRuleStep rule first given goal (Err NoMatch) = (v : Instance) → GivesGoal rule.concl first goal v → ⊥
+IsRuleStep rule first given goal (Err BadArgument) = Misgiven rule first given goal
+IsRuleStep rule first given goal (Err BadAddress) = ⊥
+IsRuleStep rule first given goal (Err UnderBinder) = ⊥
+IsRuleStep rule first given goal (Err TooLarge) = LargeStep rule first given goal
 
--- each step by an allowed justification on a good goal is what instances say
+-- there is no match if there is no such rule
+abbrev pub IsStepAt : Option Rule → Option ℕ → List Given → Sequent → Outcome Sequent → Type 0
+IsStepAt None first given goal outcome = outcome ≡ Err NoMatch
+IsStepAt (Some rule) first given goal outcome = IsRuleStep rule first given goal outcome
+
+-- the outcome is what instances say of the step, by cases on what the step is by
+abbrev pub IsStep : List Rule → Just → Sequent → Outcome Sequent → Type 0
+IsStep rules (just.Rule place first given) goal outcome = IsStepAt (slice_get rules place) first given goal outcome
+
+-- a step by an allowed justification on a good goal has exactly the outcome that instances say
 abbrev pub StepLaw : Type 0
 StepLaw =
-    (rules : List Rule) (place : ℕ) (rule : Rule) (first : Option ℕ) (given : List Given) (goal : Sequent) → slice_get rules place ≡ Some rule → IsRule rule →
-    IsTrue (is_allowed rules (just.Rule place first given)) → IsTrue (is_good goal) → IsStepBy rules place rule first given goal
+    (rules : List Rule) (j : Just) (goal : Sequent) (outcome : Outcome Sequent) → AreRules rules → IsTrue (is_allowed rules j) → IsTrue (is_good goal) →
+    (step_of_rules rules j goal ≡ outcome) ↔ IsStep rules j goal outcome
+
+-- a justification that isn't allowed gives no subgoals
+abbrev pub UnallowedLaw : Type 0
+UnallowedLaw = (rules : List Rule) (j : Just) (goal : Sequent) → is_allowed rules j ≡ false → step_of_rules rules j goal ≡ Err NoMatch
 
 -- a rule of a theory gives a goal of at most 200 hypotheses at most one list of subgoals for the same arguments, whatever
 -- else the goal and the given terms are

@@ -1,18 +1,18 @@
 -- What a rule says of a goal, in terms of instances.
-use Rattle.std.specs.Prelude.{◌≡◌, ℕ, ◌+◌, List, [], ◌∷◌, ◌++◌, map, IsTrue, Option, IsSome, ⊤}
+use Rattle.std.specs.Prelude.{◌≡◌, ℕ, ◌+◌, List, [], ◌∷◌, ◌++◌, map, IsTrue, Option, Some, ⊤}
 use Rattle.std.specs.List.{list_all}
 use Rattle.mp_term.specs.declared.term.Term.{Var}
 use Rattle.mp_term.specs.declared.sequent.Sequent.{Sequent}
 use Rattle.mp_term.specs.Terms.{in_scope_of}
-use Rattle.mp_subst.specs.Subst.{sub_of}
+use Rattle.mp_term.specs.Subst.{sub_of}
 use Rattle.mp_schema.specs.declared.schema.Schema.{Schema}
-use Rattle.mp_schema.specs.Conditions.{has_two_contexts}
 use Rattle.mp_schema.specs.Instances.{upto}
 use Rattle.mp_schema.specs.Sequents.{Instance, seq, schema_fits, ground_at, wide_of, behind_all, first_spot}
-use Rattle.mp_match.specs.Solutions.{GivesGoal}
+use Rattle.mp_schema.specs.Solutions.{GivesGoal}
 use Rattle.mp_theory.specs.declared.rule.Need.{Need}
 use Rattle.mp_theory.specs.declared.rule.Rule.{Rule}
 use Rattle.mp_theory.specs.declared.just.Given.{Given}
+use Rattle.mp_theory.specs.Allowed.{is_allowed_at}
 
 -- the variables that a given term may use: those of the need's contexts in the goal, and then the need's arguments
 abbrev pub given_variables : Instance → Schema → Need → List ℕ
@@ -30,11 +30,11 @@ MeetsAll v concl [] (g ∷ gs) = ⊥
 MeetsAll v concl (n ∷ ns) [] = ⊥
 MeetsAll v concl (n ∷ ns) (g ∷ gs) = Meets v concl n g × MeetsAll v concl ns gs
 
--- by some instance the rule's conclusion is the goal, the needs are as given, and the premises, in order, are the kids; the
--- first context has as many hypotheses as the step says, and where there are two contexts the step says it
+-- the rule may be asked so, and by some instance its conclusion is the goal, the needs are as given, and the premises, in
+-- order, are the kids; if there are two contexts, the first one has as many hypotheses as the step says
 pub record RuleStep (rule : Rule) (first : Option ℕ) (given : List Given) (goal : Sequent) (kids : List Sequent) : Type 0 where
   pub instance : Instance
-  pub said : IsTrue (has_two_contexts rule.concl) → IsSome first
+  pub allowed : IsTrue (is_allowed_at (Some rule) first given)
   pub match : GivesGoal rule.concl first goal instance
   pub meets : MeetsAll instance rule.concl rule.needs given
   pub fits : IsTrue (list_all (schema_fits instance) rule.premises)

@@ -15,6 +15,7 @@ use Rattle.mp_theory.specs.declared.rule.Rule.{Rule}
 use Rattle.mp_theory.specs.declared.just.Given.{Given}
 use Rattle.mp_theory.specs.declared.just.Just.{Just}
 use Rattle.mp_theory.specs.declared.just.Just.TheVariants as just
+use Rattle.mp_theory.specs.Allowed.{is_allowed_at}
 use Rattle.mp_theory.specs.Needs.{needs_of}
 
 -- the instance with the values of the needs; None if a given term uses another variable than its need may
@@ -42,12 +43,12 @@ outcome_matched rule given (Some i) = outcome_given rule (given_all (needs_of ru
 abbrev pub outcome_of : Rule → Option ℕ → List Given → Sequent → Outcome Sequent
 outcome_of rule first given goal = outcome_matched rule given (match_of rule.concl first goal)
 
--- the subgoals by the rule, if it is there
+-- the subgoals by the rule, if it is there and may be asked so; no goal is an instance where it isn't
 abbrev pub outcome_at : Option Rule → Option ℕ → List Given → Sequent → Outcome Sequent
 outcome_at None first given goal = Err NoMatch
-outcome_at (Some rule) first given goal = outcome_of rule first given goal
+outcome_at (Some rule) first given goal = if is_allowed_at (Some rule) first given then outcome_of rule first given goal else Err NoMatch
 
--- the step by a justification
+-- the step by a justification; one that isn't allowed gives no subgoals
 abbrev pub step_of_rules : List Rule → Just → Sequent → Outcome Sequent
 step_of_rules rules (just.Rule place first given) goal = outcome_at (slice_get rules place) first given goal
 

@@ -1,5 +1,6 @@
 -- What building asks of a schema, and matching of a conclusion or a redex.
 use Rattle.std.specs.Prelude.{ℕ, ◌+◌, List, [], ◌∷◌, map, length, Bool, true, false, ◌&&◌, ◌||◌, not, nat_lt, nat_le, nat_eq, Option, Some, None}
+use Rattle.std.specs.List.{slice_index_or}
 use Rattle.mp_logic.specs.declared.sym.Sym.{Sym}
 use Rattle.mp_term.specs.Terms.{ScopeTest, all_at_scope}
 use Rattle.mp_schema.specs.declared.pattern.Pattern.{Pattern, Pattern-F}
@@ -97,6 +98,10 @@ is_level_below d (Some level) = nat_lt level d
 abbrev pub or_zero : Option ℕ → ℕ
 or_zero None = 0
 or_zero (Some level) = level
+
+-- the variable of an argument, if the pattern's levels are these variables
+abbrev pub argument : List ℕ → Option ℕ → ℕ
+argument levels level = slice_index_or levels (or_zero level) 0
 
 -- each of the patterns is a variable below d
 abbrev pub all_variables : ℕ → List Seen → Bool

@@ -6,7 +6,7 @@ use Rattle.mp_term.specs.declared.term.Param.{Param}
 use Rattle.mp_term.specs.declared.term.Term.{Term, Var, Op}
 use Rattle.mp_term.specs.declared.term.Bound.{Bound}
 use Rattle.mp_term.specs.Terms.{in_scope_of}
-use Rattle.mp_subst.specs.Subst.{sub_of, variables}
+use Rattle.mp_term.specs.Subst.{sub_of, variables}
 use Rattle.mp_schema.specs.declared.pattern.ParamPat.{ParamPat}
 use Rattle.mp_schema.specs.declared.pattern.ParamPat.TheVariants.{Lit, Hole}
 use Rattle.mp_schema.specs.declared.pattern.Pattern.{Pattern, Pattern-F}

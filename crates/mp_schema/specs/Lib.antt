@@ -7,5 +7,6 @@ pub mod Limits
 pub mod Occurrences
 pub mod Places
 pub mod Sequents
+pub mod Solutions
 pub mod Tables
 pub mod Values

@@ -1,5 +1,5 @@
 -- Where second-order variables, contexts and holes stand in a text.
-use Rattle.std.specs.Prelude.{ℕ, List, [], ◌∷◌, ◌++◌, map, Bool, true, false, nat_eq, Option, Some, None}
+use Rattle.std.specs.Prelude.{◌≡◌, ◌⊎◌, ℕ, List, [], ◌∷◌, ◌++◌, map, Bool, true, false, nat_eq, Option, Some, None}
 use Rattle.std.specs.List.{flat_map, find}
 use Rattle.mp_logic.specs.declared.sym.Sym.{Sym}
 use Rattle.mp_schema.specs.declared.pattern.ParamPat.{ParamPat}
@@ -11,6 +11,11 @@ use Rattle.mp_schema.specs.declared.pattern.Pattern.TheFolds.{fold-Pattern, fold
 use Rattle.mp_schema.specs.declared.schema.Item.{Item}
 use Rattle.mp_schema.specs.declared.schema.Item.TheVariants.{Ctx, Hyp}
 use Rattle.mp_schema.specs.declared.schema.Schema.{Schema}
+
+-- the item is in the list
+abbrev pub In : {X : Type 0} → X → List X → Type 0
+In x [] = ⊥
+In x (y ∷ ys) = (y ≡ x) ⊎ In x ys
 
 -- ## Second-order variables and contexts
 

@@ -1,3 +1,4 @@
+ghost use Rattle.mp_schema.specs.Solutions.{OneInstance};
 ghost use Rattle.mp_schema.specs.Faultless.{RulesAreFaultless, RewritesAreFaultless, FitsByOccurrences, PremisesFit, ConditionsFit};
 
 /// What a rule and a rewrite without a fault keep. It does nothing: its contract is the laws.
@@ -12,4 +13,9 @@ pub fn fitting_laws()
     ensures occurrences { FitsByOccurrences }
     ensures premises { PremisesFit }
     ensures conditions { ConditionsFit }
+{}
+
+/// That a goal has one instance at most. It does nothing: its contract is the law.
+pub fn instance_laws()
+    ensures { OneInstance }
 {}

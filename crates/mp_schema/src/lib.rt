@@ -40,7 +40,7 @@ pub use contexts::has_two_contexts;
 pub use fault::SchemaFault;
 pub use find::{context_value, meta_value, param_value};
 pub use instance::{CtxVal, Inst, MetaVal, ParamVal};
-pub use laws::{faultless_laws, fitting_laws};
+pub use laws::{faultless_laws, fitting_laws, instance_laws};
 pub use pattern::{PBound, ParamPat, Pattern};
 pub use rewrite::rewrite_fault;
 pub use rule::{find_rule_fault, rule_fault};

@@ -1,2 +1,4 @@
 pub mod Entries
 pub mod Gathered
+pub mod Transfer
+pub mod Uses

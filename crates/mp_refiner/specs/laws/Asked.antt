@@ -15,9 +15,10 @@ use Rattle.mp_schema.specs.declared.schema.Schema.{Schema}
 use Rattle.mp_schema.specs.Conditions.{nothing_before, past_all, has_all, is_apart, is_known, context_names, has_two_contexts}
 use Rattle.mp_logic.specs.Lists.{same_bool}
 use Rattle.mp_schema.specs.Values.{find_meta}
-use Rattle.mp_match.specs.Walks.{match_of, widest_in_sequent}
-use Rattle.mp_match.proofs.Narrow.{narrow-goal}
-use Rattle.mp_match.proofs.SequentSpread.{IsSpread, match_spreads}
+use Rattle.mp_match.specs.Walks.{match_of}
+use Rattle.mp_term.specs.Subst.{widest_in_sequent}
+use Rattle.mp_term.proofs.Laws.{goals_are_narrow}
+use Rattle.mp_match.specs.Spread.{IsSpread}
 use Rattle.mp_theory.specs.declared.rule.Need.{Need}
 use Rattle.mp_theory.specs.declared.rule.Rule.{Rule}
 use Rattle.mp_theory.specs.declared.just.Given.{Given}
@@ -25,13 +26,13 @@ use Rattle.mp_theory.specs.Needs.{needs_of}
 use Rattle.mp_theory.specs.Tables.{is_faultless}
 use Rattle.mp_refiner.specs.Ready.{IsUsable, AreNew}
 use Rattle.mp_theory.specs.Allowed.{is_good, is_for, are_for, is_allowed_at}
-use Rattle.mp_refiner.specs.laws.Lists.{In}
-use Rattle.mp_refiner.specs.laws.Kinds.{has_all-has}
-use Rattle.mp_refiner.specs.laws.Uses.{HaveApartNames, need-from, needs_apart}
-use Rattle.mp_refiner.specs.laws.Agreeing.{and_both}
-use Rattle.mp_refiner.specs.laws.Placed.{IsWithin, is_known_more, placed_known, past_within}
+use Rattle.mp_schema.specs.Occurrences.{In}
+use Rattle.mp_schema.proofs.UseKinds.{has_all-has}
+use Rattle.mp_theory.proofs.Uses.{HaveApartNames, need-from, needs_apart}
+use Rattle.mp_schema.proofs.Agreeing.{and_both}
+use Rattle.mp_schema.proofs.Placed.{IsWithin, is_known_more, placed_known, past_within}
 use Rattle.mp_refiner.specs.laws.Sound.{IsSound, sound}
-use Rattle.mp_refiner.specs.laws.Matched.{sized_where_two, match_gives, match_only}
+use Rattle.mp_refiner.specs.laws.Matched.{IsMatch, sized_where_two}
 use Rattle.mp_refiner.specs.laws.Unused.{unused_meta}
 use Rattle.mp_refiner.specs.laws.Given.{AreUsable}
 
@@ -43,7 +44,7 @@ pub record IsForNeed (n : Need) (g : Given) : Type 0 where
   pub shallow : depth_of g.body ≤ 200
   pub few : IsTrue (few_binders_of g.body)
 
-for_need : (n : Need) (g : Given) → is_for n g ≡ true → IsForNeed n g
+pub for_need : (n : Need) (g : Given) → is_for n g ≡ true → IsForNeed n g
 for_need n g h = record {
   scoped = grind (arith, nat_tests, common_steps, h);
   shallow = grind (arith, nat_tests, common_steps, h);
@@ -92,7 +93,7 @@ asked rule first given goal allowed good =
     let limits = and_both _ (nat_le _ 20000) g.1 in
     let ends = and_both _ (is_shallow goal.concl) limits.0 in
     let hyps = and_both (nat_le (length goal.hyps) 200) (list_all is_shallow goal.hyps) ends.0 in
-    let narrow = narrow-goal goal g.1 h.1 in
+    let narrow = goals_are_narrow goal g.1 h.1 in
     record {
       rule = sound rule b.0;
       two = sized_where_two first (has_two_contexts rule.concl) b.1;
@@ -147,9 +148,9 @@ module _ (ps : List Schema) (c : Schema) (rule : IsSound ps c) where
       omega arith
 
 module _ (ps : List Schema) (c : Schema) (first : Option ℕ) (given : List Given) (goal : Sequent) (a : IsAsked ps c first given goal) where
-  module _ (i : Inst) (is : match_of c first goal ≡ Some i) where
+  module _ (i : Inst) (is : IsMatch c first goal i) where
     spread : IsSpread i c goal
-    spread = match_spreads c first goal a.rule.conclusion a.two a.scoped a.narrow i is
+    spread = is.spread
 
     pub need_usable : (n : Need) → In n (needs_of ps c) → IsUsable i.ctxs n
     need_usable n j = record {
@@ -166,5 +167,5 @@ module _ (ps : List Schema) (c : Schema) (first : Option ℕ) (given : List Give
     pub needs_new : AreNew i.metas (needs_of ps c)
     needs_new =
         new_given i.metas (needs_of ps c) (needs_apart ps c) (λ n j.
-        unused_meta c first goal i a.rule.placed_end (match_gives c first goal a.rule.conclusion a.two a.scoped a.narrow i is) (match_only c first goal a.rule.conclusion a.two a.scoped a.narrow i is)
+        unused_meta c first goal i a.rule.placed_end (is.whole.0) (is.whole.2)
         n.name (need-from ps c n j).new)

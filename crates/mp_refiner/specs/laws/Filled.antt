@@ -18,19 +18,22 @@ use Rattle.mp_schema.specs.Sequents.{Instance, wide_of, seq, schema_fits}
 use Rattle.mp_schema.specs.Values.{find_meta, find_param, find_ctx, body_or, kept_or, kept_of, instance_of}
 use Rattle.mp_schema.proofs.Fitting.{schema_fits-told}
 use Rattle.mp_match.specs.Covering.{is_there}
-use Rattle.mp_match.specs.Solutions.{Agrees, GivesGoal, HasFirst, FirstHas}
+use Rattle.mp_schema.specs.Solutions.{Agrees, GivesGoal, HasFirst, FirstHas}
 use Rattle.mp_match.specs.Walks.{match_of}
 use Rattle.mp_theory.specs.declared.rule.Need.{Need}
 use Rattle.mp_theory.specs.declared.just.Given.{Given}
 use Rattle.mp_theory.specs.Needs.{needs_of}
 use Rattle.mp_refiner.specs.RuleStep.{MeetsAll}
 use Rattle.mp_refiner.specs.Steps.{given_all}
-use Rattle.mp_refiner.specs.laws.Lists.{In, in-left, in-flat, all-in, each-all, in-each}
-use Rattle.mp_refiner.specs.laws.Kinds.{Kind, kind_of, same_name, context_occurs}
-use Rattle.mp_refiner.specs.laws.Transfer.{kind_of_need, transfer}
-use Rattle.mp_refiner.specs.laws.Agreeing.{and_both, SameAt, SameValue, SameHole, same_seq, same_place}
-use Rattle.mp_refiner.specs.laws.Covered.{HasAll, HasValue, all_schema}
-use Rattle.mp_refiner.specs.laws.Matched.{match_gives, match_begins, match_only, match_covers}
+use Rattle.mp_schema.specs.Occurrences.{In}
+use Rattle.mp_schema.proofs.Lists.{in-left, in-flat, all-in, each-all, in-each}
+use Rattle.mp_schema.proofs.UseKinds.{Kind, kind_of, same_name, context_occurs}
+use Rattle.mp_theory.proofs.Transfer.{kind_of_need, transfer}
+use Rattle.mp_schema.proofs.Agreeing.{and_both, SameAt, SameHole, same_seq, same_place}
+use Rattle.mp_schema.specs.Solutions.{SameValue}
+use Rattle.mp_match.proofs.Agreement.{agree_hole, agree_at, agree_ambient}
+use Rattle.mp_match.proofs.Covered.{HasAll, HasValue, all_schema}
+use Rattle.mp_refiner.specs.laws.Matched.{IsMatch}
 use Rattle.mp_refiner.specs.laws.Given.{IsFilled, AllMeetBy, agrees-before, filled, completed}
 use Rattle.mp_refiner.specs.laws.Meeting.{IsLaidAs, meets_by, by_meets}
 use Rattle.mp_refiner.specs.laws.Asked.{IsAsked, as_many, needs_usable, needs_new, need_listed}
@@ -47,22 +50,6 @@ agrees_itself i = record {
 pub some_of : {X : Type 0} → (o : Option X) → is_there o ≡ true → (x : X) × (o ≡ Some x)
 some_of None e = absurd cc
 some_of (Some x) e = (x, refl)
-
--- ## Instances that agree with what is found have the same values
-
-module _ (i : Inst) (u w : Instance) (a : Agrees u i) (b : Agrees w i) where
-  agree_value : (c : Bool) (name : Sym) → HasValue i c name → SameValue u w c name
-  agree_value true name e = let x = some_of (find_ctx i.ctxs name) e in a.ctxs name x.0 x.1 ∙ sym (b.ctxs name x.0 x.1)
-  agree_value false name e = let x = some_of (find_meta i.metas name) e in a.metas name x.0 x.1 ∙ sym (b.metas name x.0 x.1)
-
-  pub agree_hole : (name : Sym) → is_there (find_param i.params name) ≡ true → SameHole u w name
-  agree_hole name e = let x = some_of (find_param i.params name) e in a.params name x.0 x.1 ∙ sym (b.params name x.0 x.1)
-
-  pub agree_at : (o : Occurrence) → HasValue i o.is_context o.name → SameAt u w (kind_of o)
-  agree_at o e = agree_value o.is_context o.name e
-
-  pub agree_ambient : u.ambient ≡ w.ambient
-  agree_ambient = a.ambient ∙ sym b.ambient
 
 -- ## Values that are the same fit the same
 
@@ -111,18 +98,18 @@ has_all-in known (x ∷ xs) name e (inr i) = has_all-in known xs name (and_both 
 
 -- ## What is found
 
-module _ (ps : List Schema) (c : Schema) (first : Option ℕ) (given : List Given) (goal : Sequent) (a : IsAsked ps c first given goal) (i : Inst) (is : match_of c first goal ≡ Some i) where
+module _ (ps : List Schema) (c : Schema) (first : Option ℕ) (given : List Given) (goal : Sequent) (a : IsAsked ps c first given goal) (i : Inst) (is : IsMatch c first goal i) where
   abbrev needs : List Need
   needs = needs_of ps c
 
   pub gives_first : GivesGoal c first goal (instance_of i)
-  gives_first = match_gives c first goal a.rule.conclusion a.two a.scoped a.narrow i is
+  gives_first = is.whole.0
 
   pub agrees_first : (v : Instance) → GivesGoal c first goal v → Agrees v i
-  agrees_first = match_only c first goal a.rule.conclusion a.two a.scoped a.narrow i is
+  agrees_first = is.whole.2
 
   there : HasAll i (occurrences_in_schema c) (holes_in_schema c)
-  there = all_schema i c (match_covers c first goal a.rule.conclusion a.two a.scoped a.narrow i is)
+  there = all_schema i c (is.covers)
 
   -- two instances that agree with the match have the same values where the conclusion has names
   agree_known : (u w : Instance) → Agrees u i → Agrees w i → (o : Occurrence) → In o (occurrences_in_schema c) → SameAt u w (kind_of o)
@@ -144,7 +131,7 @@ module _ (ps : List Schema) (c : Schema) (first : Option ℕ) (given : List Give
       (agree_holes v (instance_of i) x (agrees_itself i)) in
       record {
         ambient = g.ambient;
-        pos = λ name e. ap (λ s. s.pos name) place ∙ sym (match_begins c first goal a.rule.conclusion a.two a.scoped a.narrow i is name e);
+        pos = λ name e. ap (λ s. s.pos name) place ∙ sym (is.whole.1 name e);
         kept = same_kept v x;
       }
 

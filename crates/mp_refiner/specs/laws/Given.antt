@@ -8,14 +8,14 @@ use Rattle.std.proofs.lemmas.Grind.{common_steps}
 use Rattle.mp_logic.specs.declared.sym.Sym.{Sym}
 use Rattle.mp_term.specs.declared.term.Term.{Term, Var}
 use Rattle.mp_term.specs.Terms.{in_scope_of}
-use Rattle.mp_subst.specs.Subst.{sub_of, unrenamed}
+use Rattle.mp_term.specs.Subst.{sub_of, unrenamed}
 use Rattle.mp_schema.specs.declared.instance.CtxVal.{CtxVal}
 use Rattle.mp_schema.specs.declared.instance.MetaVal.{MetaVal}
 use Rattle.mp_schema.specs.declared.instance.Inst.{Inst}
 use Rattle.mp_schema.specs.Sequents.{Instance}
 use Rattle.mp_schema.specs.Values.{find_meta, find_param, find_ctx, variables_of}
 use Rattle.mp_match.specs.Giving.{given_levels, with_value}
-use Rattle.mp_match.specs.Solutions.{Agrees}
+use Rattle.mp_schema.specs.Solutions.{Agrees}
 use Rattle.mp_match.proofs.GivenLaws.{given-distinct, given-below}
 use Rattle.mp_match.proofs.Solving.{meta-kept, meta-new, meta-either}
 use Rattle.mp_match.proofs.Steps.{undone, restored}
@@ -24,7 +24,8 @@ use Rattle.mp_theory.specs.declared.just.Given.{Given}
 use Rattle.mp_theory.specs.Needs.{is_needed}
 use Rattle.mp_refiner.specs.Ready.{IsUsable, AreNew}
 use Rattle.mp_refiner.specs.Steps.{given_all}
-use Rattle.mp_refiner.specs.laws.Lists.{In, value_or}
+use Rattle.mp_schema.specs.Occurrences.{In}
+use Rattle.mp_schema.proofs.Lists.{value_or}
 
 -- each need's variables in the goal may be used, and the term that is given for it is in their scope
 abbrev pub AreUsable : List CtxVal → List Need → List Given → Type 0

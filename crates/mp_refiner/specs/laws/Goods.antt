@@ -21,14 +21,15 @@ use Rattle.mp_theory.specs.Needs.{needs_of}
 use Rattle.mp_refiner.specs.Ready.{IsReady}
 use Rattle.mp_theory.specs.Allowed.{is_good, is_allowed_at, is_allowed}
 use Rattle.mp_refiner.specs.Steps.{given_all, outcome_given, outcome_matched, outcome_of, outcome_at, step_of_rules}
-use Rattle.mp_refiner.specs.laws.Lists.{In}
-use Rattle.mp_refiner.specs.laws.Agreeing.{and_both}
+use Rattle.mp_schema.specs.Occurrences.{In}
+use Rattle.mp_schema.proofs.Agreeing.{and_both}
 use Rattle.mp_refiner.specs.laws.Asked.{IsAsked, asked}
 use Rattle.mp_refiner.specs.laws.Filled.{gives_made, meets_made, premise_fits}
 use Rattle.mp_refiner.specs.laws.Tame.{tame}
 use Rattle.mp_refiner.specs.laws.Widths.{by_limits}
+use Rattle.mp_refiner.specs.laws.Matched.{IsMatch, some_match}
 
-module _ (ps : List Schema) (c : Schema) (first : Option ℕ) (given : List Given) (goal : Sequent) (a : IsAsked ps c first given goal) (i : Inst) (is : match_of c first goal ≡ Some i) (new : Inst)
+module _ (ps : List Schema) (c : Schema) (first : Option ℕ) (given : List Given) (goal : Sequent) (a : IsAsked ps c first given goal) (i : Inst) (is : IsMatch c first goal i) (new : Inst)
     (all : given_all (needs_of ps c) given i ≡ Some new) where
   abbrev made : Instance
   made = instance_of new
@@ -68,7 +69,7 @@ abbrev pub AreGood : List Sequent → Type 0
 AreGood kids = IsTrue (list_all is_good kids)
 
 module _ (rule : Rule) (first : Option ℕ) (given : List Given) (goal : Sequent) (a : IsAsked rule.premises rule.concl first given goal) where
-  given_good : (i : Inst) → match_of rule.concl first goal ≡ Some i → (o : Option Inst) → given_all (needs_of rule.premises rule.concl) given i ≡ o → IfOk (outcome_given rule o) AreGood
+  given_good : (i : Inst) → IsMatch rule.concl first goal i → (o : Option Inst) → given_all (needs_of rule.premises rule.concl) given i ≡ o → IfOk (outcome_given rule o) AreGood
   given_good i is None e = tt
   given_good i is (Some new) e =
       by_limits AreGood (list_all within_limits_of (map (seq (instance_of new)) rule.premises)) (map (seq (instance_of new)) rule.premises)
@@ -76,7 +77,7 @@ module _ (rule : Rule) (first : Option ℕ) (given : List Given) (goal : Sequent
 
   matched_good : (o : Option Inst) → match_of rule.concl first goal ≡ o → IfOk (outcome_matched rule given o) AreGood
   matched_good None e = tt
-  matched_good (Some i) e = given_good i e (given_all (needs_of rule.premises rule.concl) given i) refl
+  matched_good (Some i) e = given_good i (some_match rule.concl first goal a.rule.conclusion a.two a.scoped a.narrow i e) (given_all (needs_of rule.premises rule.concl) given i) refl
 
   pub rule_keeps_good : IfOk (outcome_of rule first given goal) AreGood
   rule_keeps_good = matched_good (match_of rule.concl first goal) refl
@@ -84,7 +85,7 @@ module _ (rule : Rule) (first : Option ℕ) (given : List Given) (goal : Sequent
 option_keeps_good : (rule : Option Rule) (first : Option ℕ) (given : List Given) (goal : Sequent) → IsTrue (is_allowed_at rule first given) → IsTrue (is_good goal) →
     IfOk (outcome_at rule first given goal) AreGood
 option_keeps_good None first given goal allowed good = tt
-option_keeps_good (Some rule) first given goal allowed good = rule_keeps_good rule first given goal (asked rule first given goal allowed good)
+option_keeps_good (Some rule) first given goal allowed good = rw allowed (rule_keeps_good rule first given goal (asked rule first given goal allowed good))
 
 pub step_keeps_good : (rules : List Rule) (j : Just) (goal : Sequent) → IsTrue (is_allowed rules j) → IsTrue (is_good goal) → IfOk (step_of_rules rules j goal) AreGood
 step_keeps_good rules (just.Rule place first given) goal allowed good = option_keeps_good (slice_get rules place) first given goal allowed good

@@ -6,7 +6,7 @@ use Rattle.std.proofs.lemmas.List.{length-append}
 use Rattle.mp_logic.specs.declared.sym.Sym.{Sym}
 use Rattle.mp_term.specs.declared.term.Term.{Term, Var}
 use Rattle.mp_term.specs.Terms.{in_scope_of}
-use Rattle.mp_subst.specs.Subst.{sub_of}
+use Rattle.mp_term.specs.Subst.{sub_of}
 use Rattle.mp_schema.specs.declared.instance.Inst.{Inst}
 use Rattle.mp_schema.specs.declared.schema.Schema.{Schema}
 use Rattle.mp_schema.specs.Conditions.{has, has_all, context_names}
@@ -15,13 +15,22 @@ use Rattle.mp_schema.specs.Sequents.{Instance, first_spot, behind_all, ground_at
 use Rattle.mp_logic.specs.Lists.{joined}
 use Rattle.mp_schema.specs.Values.{variables_of, first_variable_of, kept_of}
 use Rattle.mp_match.specs.Giving.{given_levels}
-use Rattle.mp_match.proofs.Ranges.{length-upto}
+use Rattle.mp_schema.proofs.Ranges.{length-upto}
 use Rattle.mp_theory.specs.declared.rule.Need.{Need}
 use Rattle.mp_theory.specs.declared.just.Given.{Given}
 use Rattle.mp_refiner.specs.RuleStep.{given_variables, Meets, MeetsAll}
-use Rattle.mp_refiner.specs.laws.Lists.{In}
-use Rattle.mp_refiner.specs.laws.Agreeing.{and_both}
+use Rattle.mp_schema.specs.Occurrences.{In}
+use Rattle.mp_schema.proofs.Agreeing.{and_both}
 use Rattle.mp_refiner.specs.laws.Given.{MeetsBy, AllMeetBy}
+use Rattle.mp_schema.proofs.Rows.{wide-ground}
+
+-- a need's value has as many variables as its given term may use
+pub given-width : (v : Instance) (c : Schema) (n : Need) → wide_of v n.ctxs + n.arity ≡ length (given_variables v c n)
+given-width v c n =
+    let a = length-append (ground_at v (behind_all v c.items first_spot).pos n.ctxs) (upto 200 n.arity) in
+    let b = wide-ground v (behind_all v c.items first_spot).pos n.ctxs in
+    let d = length-upto 200 n.arity in
+    omega (arith, a, b, d)
 
 -- the contexts of an instance are those that are found: each has the same hypotheses and begins at the same level
 pub record IsLaidAs (v : Instance) (c : Schema) (i : Inst) : Type 0 where
@@ -47,28 +56,12 @@ module _ (v : Instance) (c : Schema) (i : Inst) (laid : IsLaidAs v c i) where
   same_ground : (cs : List Sym) → has_all (context_names c) cs ≡ true → ground_at v pos cs ≡ variables_of i.ctxs cs
   same_ground cs e = ap (λ n. upto 0 n ++ joined (map (λ n. upto (pos n) (length (v.kept n))) cs)) laid.ambient ∙ same_blocks cs e
 
-  length-blocks : (cs : List Sym) → has_all (context_names c) cs ≡ true → length (variables_of i.ctxs cs) ≡ sum (map (λ n. length (v.kept n)) cs)
-  length-blocks [] e = refl
-  length-blocks (n ∷ cs) e =
-      let both = and_both (has (context_names c) n) (has_all (context_names c) cs) e in
-      let k = ap (λ (ts : List Term). length ts) (laid.kept n both.0) in
-      let rest = length-blocks cs both.1 in
-      let one = length-upto (first_variable_of i.ctxs n) (length (kept_of i.ctxs n)) in
-      let all = length-append (upto (first_variable_of i.ctxs n) (length (kept_of i.ctxs n))) (variables_of i.ctxs cs) in
-      let total : sum (map (λ n. length (v.kept n)) (n ∷ cs)) ≡ length (v.kept n) + sum (map (λ n. length (v.kept n)) cs) = grind (arith, common_steps) in
-      omega arith
-
   module _ (n : Need) (known : has_all (context_names c) n.ctxs ≡ true) where
     same_variables : given_variables v c n ≡ given_levels i.ctxs n.ctxs n.arity
     same_variables = ap (λ ls. ls ++ upto 200 n.arity) (same_ground n.ctxs known)
 
     same_width : wide_of v n.ctxs + n.arity ≡ length (given_levels i.ctxs n.ctxs n.arity)
-    same_width =
-        let a = laid.ambient in
-        let b = length-blocks n.ctxs known in
-        let d = length-upto 200 n.arity in
-        let e = length-append (variables_of i.ctxs n.ctxs) (upto 200 n.arity) in
-        omega arith
+    same_width = given-width v c n ∙ ap (λ (ls : List ℕ). length ls) same_variables
 
     to_levels : (g : Given) → Meets v c n g → MeetsBy i.ctxs v n g
     to_levels g m = record {

@@ -25,9 +25,10 @@ use Rattle.mp_schema.proofs.Layers.{occurrences_in-Var, occurrences_in-Op, occur
 use Rattle.mp_build.proofs.LimitLayers.{few_of-Op, few_of-Meta, few_of_bound-is}
 use Rattle.mp_theory.specs.declared.rule.Rule.{Rule}
 use Rattle.mp_theory.specs.Tables.{is_faultless}
-use Rattle.mp_refiner.specs.laws.Lists.{In, in-split, all-in, each-in}
-use Rattle.mp_refiner.specs.laws.Agreeing.{and_both}
-use Rattle.mp_refiner.specs.laws.Transfer.{IsEven}
+use Rattle.mp_schema.specs.Occurrences.{In}
+use Rattle.mp_schema.proofs.Lists.{in-split, all-in, each-in}
+use Rattle.mp_schema.proofs.Agreeing.{and_both}
+use Rattle.mp_theory.proofs.Transfer.{IsEven}
 
 -- ## Few arguments
 

@@ -15,24 +15,25 @@ use Rattle.mp_schema.specs.Conditions.{nothing_before, has, context_names}
 use Rattle.mp_schema.specs.Occurrences.{Occurrence, occurrences_in, occurrences_in_item, occurrences_in_schema}
 use Rattle.mp_schema.specs.Sequents.{Instance}
 use Rattle.mp_schema.specs.Values.{body_or, kept_or, kept_of, instance_of}
-use Rattle.mp_match.specs.Solutions.{GivesGoal}
+use Rattle.mp_schema.specs.Solutions.{GivesGoal}
 use Rattle.mp_match.specs.Walks.{match_of}
-use Rattle.mp_match.proofs.SequentSpread.{match_spreads}
 use Rattle.mp_build.specs.Laws.{IsTameTerm, IsTame}
 use Rattle.mp_theory.specs.declared.rule.Need.{Need}
 use Rattle.mp_theory.specs.declared.just.Given.{Given}
 use Rattle.mp_theory.specs.Needs.{needs_of, is_needed}
 use Rattle.mp_refiner.specs.RuleStep.{MeetsAll}
 use Rattle.mp_refiner.specs.Steps.{given_all}
-use Rattle.mp_refiner.specs.laws.Lists.{In, decided, in-left, in-all, all-in}
-use Rattle.mp_refiner.specs.laws.Kinds.{same_name, context_occurs}
-use Rattle.mp_refiner.specs.laws.Uses.{UsedIn, needed-in}
-use Rattle.mp_refiner.specs.laws.Before.{IsInherited, few_inherited, shallow_inherited}
-use Rattle.mp_refiner.specs.laws.Passing.{PassValue, schema_pass}
-use Rattle.mp_refiner.specs.laws.Placed.{past_within}
+use Rattle.mp_schema.specs.Occurrences.{In}
+use Rattle.mp_schema.proofs.Lists.{decided, in-left, in-all, all-in}
+use Rattle.mp_schema.proofs.UseKinds.{same_name, context_occurs}
+use Rattle.mp_theory.proofs.Uses.{UsedIn, needed-in}
+use Rattle.mp_schema.proofs.Before.{IsInherited, few_inherited, shallow_inherited}
+use Rattle.mp_schema.proofs.Passing.{PassValue, schema_pass}
+use Rattle.mp_schema.proofs.Placed.{past_within}
 use Rattle.mp_refiner.specs.laws.Unused.{unused_meta}
 use Rattle.mp_refiner.specs.laws.Asked.{IsAsked, AreForNeeds}
 use Rattle.mp_refiner.specs.laws.Filled.{gives_first, agrees_first, fill, gives_made, meets_made}
+use Rattle.mp_refiner.specs.laws.Matched.{IsMatch}
 
 -- a name is used or not
 used_or_not : (os : List Occurrence) (name : Sym) → UsedIn os name ⊎ (UsedIn os name → ⊥)
@@ -82,7 +83,7 @@ met_tame v c (k ∷ ns) (g ∷ gs) h m n (inl same) = subst (λ (x : Need). IsTa
           shallow = low (v.values.meta k.name) (shallow_inherited.before (v.values.meta k.name) _ _ (ap is_shallow m.0.gives ∙ deep));
         }
 
-module _ (ps : List Schema) (c : Schema) (first : Option ℕ) (given : List Given) (goal : Sequent) (a : IsAsked ps c first given goal) (i : Inst) (is : match_of c first goal ≡ Some i) (new : Inst)
+module _ (ps : List Schema) (c : Schema) (first : Option ℕ) (given : List Given) (goal : Sequent) (a : IsAsked ps c first given goal) (i : Inst) (is : IsMatch c first goal i) (new : Inst)
     (all : given_all (needs_of ps c) given i ≡ Some new) where
   abbrev made : Instance
   made = instance_of new
@@ -140,7 +141,7 @@ module _ (ps : List Schema) (c : Schema) (first : Option ℕ) (given : List Give
         in-all IsTameTerm (made.kept name) (λ t j. record { few = all-in few_binders_of (made.kept name) t few j; shallow = low t (all-in is_shallow (made.kept name) t shallow j) })
     | inr e ↦
         let h = past_within c.items nothing_before name in
-        let spread = match_spreads c first goal a.rule.conclusion a.two a.scoped a.narrow i is in
+        let spread = is.spread in
         let none = spread.others name (h ∙ e) in
         subst (All IsTameTerm) (sym (same_kept name ∙ ap kept_or none)) (in-all IsTameTerm [] (λ t j. absurd j))
   ]
@@ -150,7 +151,7 @@ module _ (ps : List Schema) (c : Schema) (first : Option ℕ) (given : List Give
     ambient = let e = gives.ambient in omega arith;
     metas = tame_meta;
     many = λ name.
-        let spread = match_spreads c first goal a.rule.conclusion a.two a.scoped a.narrow i is in
+        let spread = is.spread in
         let k = spread.few name in
         let m = a.many in
         let e = ap (λ (ts : List Term). length ts) (same_kept name) in

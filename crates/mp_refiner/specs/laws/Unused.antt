@@ -18,11 +18,13 @@ use Rattle.mp_schema.specs.Occurrences.{Occurrence, occurrences_in_schema}
 use Rattle.mp_schema.specs.Sequents.{Instance, wide_of}
 use Rattle.mp_schema.specs.Values.{find_meta, instance_of}
 use Rattle.mp_schema.proofs.Fitting.{schema_fits-told}
-use Rattle.mp_match.specs.Solutions.{Agrees, GivesGoal, HasFirst, FirstHas}
-use Rattle.mp_refiner.specs.laws.Lists.{In, decided, all-each, each-in, in-each, each-all}
-use Rattle.mp_refiner.specs.laws.Kinds.{kind_of, same_name, nat_eq-itself}
-use Rattle.mp_refiner.specs.laws.Uses.{UsedIn}
-use Rattle.mp_refiner.specs.laws.Agreeing.{SameAt, SameValue, same_seq}
+use Rattle.mp_schema.specs.Solutions.{Agrees, GivesGoal, HasFirst, FirstHas}
+use Rattle.mp_schema.specs.Occurrences.{In}
+use Rattle.mp_schema.proofs.Lists.{decided, all-each, each-in, in-each, each-all}
+use Rattle.mp_schema.proofs.UseKinds.{kind_of, same_name, nat_eq-itself}
+use Rattle.mp_theory.proofs.Uses.{UsedIn}
+use Rattle.mp_schema.proofs.Agreeing.{SameAt, same_seq}
+use Rattle.mp_schema.specs.Solutions.{SameValue}
 
 -- ## Another term
 

@@ -4,7 +4,8 @@ use Rattle.std.specs.Prelude.{Result, Ok, Err, IfOk, slice_get, zero, suc}
 use Rattle.std.specs.List.{list_all}
 use Rattle.std.proofs.lemmas.Grind.{common_steps}
 use Rattle.std.proofs.lemmas.List.{length-map}
-use Rattle.mp_logic.specs.declared.logic.Why.TheVariants.{TooLarge}
+use Rattle.mp_logic.specs.declared.logic.Why.TheVariants.{NoMatch, TooLarge}
+use Rattle.mp_logic.specs.Steps.{Outcome}
 use Rattle.mp_term.specs.declared.sequent.Sequent.{Sequent}
 use Rattle.mp_term.specs.Limits.{within_limits_of}
 use Rattle.mp_schema.specs.declared.instance.Inst.{Inst}
@@ -15,6 +16,7 @@ use Rattle.mp_theory.specs.declared.rule.Rule.{Rule}
 use Rattle.mp_theory.specs.declared.just.Given.{Given}
 use Rattle.mp_theory.specs.declared.just.Just.{Just}
 use Rattle.mp_theory.specs.declared.just.Just.TheVariants as just
+use Rattle.mp_theory.specs.Allowed.{is_allowed_at}
 use Rattle.mp_theory.specs.Needs.{needs_of}
 use Rattle.mp_refiner.specs.Steps.{given_all, outcome_given, outcome_matched, outcome_of, outcome_at, step_of_rules, width_of_rules}
 
@@ -49,11 +51,16 @@ pub at_most : {E : Type 0} (r : Result (List Sequent) E) (n m : ℕ) → n ≤ m
 at_most (Ok kids) n m le h = omega arith
 at_most (Err e) n m le h = tt
 
+if_allowed : (n : ℕ) (b : Bool) (o : Outcome Sequent) → IfOk o (AtMost n) → IfOk (if b then o else Err NoMatch) (AtMost n)
+if_allowed n true o h = h
+if_allowed n false o h = tt
+
 option_narrow : (rules : List Rule) (rule : Option Rule) (first : Option ℕ) (given : List Given) (goal : Sequent) → ((r : Rule) → rule ≡ Some r → length r.premises ≤ width_of_rules rules) →
     IfOk (outcome_at rule first given goal) (AtMost (width_of_rules rules))
 option_narrow rules None first given goal h = tt
 option_narrow rules (Some rule) first given goal h =
-    at_most (outcome_of rule first given goal) (length rule.premises) (width_of_rules rules) (h rule refl) (rule_narrow rule first given goal)
+    if_allowed (width_of_rules rules) (is_allowed_at (Some rule) first given) (outcome_of rule first given goal)
+    (at_most (outcome_of rule first given goal) (length rule.premises) (width_of_rules rules) (h rule refl) (rule_narrow rule first given goal))
 
 pub step_within_width : (rules : List Rule) (j : Just) (goal : Sequent) → IfOk (step_of_rules rules j goal) (AtMost (width_of_rules rules))
 step_within_width rules (just.Rule place first given) goal = option_narrow rules (slice_get rules place) first given goal (λ r e. wide rules place r e)

@@ -2,14 +2,13 @@ use Rattle.std.proofs.Common.{◌≡◌, ℕ, List, length, true, false, if◌th
 use denote.Param.Weighed.{at_most}
 use Rattle.mp_schema.proofs.pattern.Pattern.TheLaws as pattern_size
 use Rattle.mp_term.specs.declared.term.Term.{Term}
-use Rattle.mp_subst.specs.Subst.{occurs_in}
-use Rattle.mp_build.specs.Sites.{made_at, the_blank}
+use Rattle.mp_term.specs.Subst.{occurs_in}
+use Rattle.mp_build.specs.Sites.{made_at, the_blank, spot_of}
 use Rattle.mp_schema.specs.Values.{instance_of}
-use Rattle.mp_build.specs.Sites.{spot_of}
 use Rattle.mp_build.proofs.Buildable.{bodies_next, bodies_pushed, args_next, args_pushed, contexts_made, substitutable}
 use Rattle.mp_build.proofs.Agreeing.{used_behind, meta_made}
 use Rattle.mp_build.proofs.build.+building.Goals as goal
-use Rattle.mp_build.proofs.build.+building.Goals.{push_args-then-occurs+in_ok-made, push_args-else-occurs}
+use Rattle.mp_build.proofs.build.+building.Goals.{push_args-then-occurs+in_ok-made, push_args-else-occurs+in_ok-made-2}
 
 pub build_bodies-loop-sub-preserved : goal.build_bodies-loop-sub-preserved
 build_bodies-loop-sub-preserved t c =
@@ -38,9 +37,9 @@ push_args-loop-arg-preserved t c =
       | push_args-then-occurs+in_ok-made b ↦
           let stands : occurs_in (level c.loop-arg.terms.items) a.t.now ≡ true = rw many at (sym c.occurs.ensures ∙ b.if-occurs.true) in
           rw (stands, b.made-is) b.in_ok-made.ensures
-      | push_args-else-occurs b ↦
+      | push_args-else-occurs+in_ok-made-2 b ↦
           let none : occurs_in (level c.loop-arg.terms.items) a.t.now ≡ false = rw many at (sym c.occurs.ensures ∙ b.if-occurs.false) in
-          rw (none, b.made-is) b.blank-made.ensures
+          rw (none, b.made-is) b.in_ok-made-2.ensures
     ] in
     (next.1, args_pushed v l a.span.base a.t.now a.args.now a.span.scope c.loop-arg.arg-index x _ c.loop-arg.terms.items _ c.if-occurs.made (omega arith) c.arg-item.is made (search rules) before.1)
 

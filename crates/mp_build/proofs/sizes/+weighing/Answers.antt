@@ -5,12 +5,11 @@ use Rattle.mp_schema.specs.Sequents.{wide_of}
 use Rattle.mp_schema.specs.Values.{instance_of, body_or}
 use Rattle.mp_schema.specs.declared.pattern.ParamPat.{ParamPat}
 use Rattle.mp_schema.specs.declared.pattern.PBound.{PBound}
-use Rattle.mp_schema.specs.declared.pattern.Pattern.{Op, Meta, the_lemmas}
+use Rattle.mp_schema.specs.declared.pattern.Pattern.{Op, Meta, the_lemmas, Pattern}
 use Rattle.mp_schema.proofs.pattern.PBound.TheLaws.{the_size}
 use Rattle.mp_schema.proofs.pattern.Pattern.TheLaws as pattern_size
 use Rattle.std.proofs.lemmas.Result.{err_from_is_err_and}
-use Rattle.mp_subst.specs.Subst.{occurs_in}
-use Rattle.mp_schema.specs.declared.pattern.Pattern.{Pattern}
+use Rattle.mp_term.specs.Subst.{occurs_in}
 use Rattle.mp_build.specs.Sizes.{inst_size, inst_depth}
 use Rattle.mp_term.specs.declared.term.Term.{Var}
 use Rattle.mp_build.proofs.Layers.{inst_size-Meta, inst_depth-Meta}

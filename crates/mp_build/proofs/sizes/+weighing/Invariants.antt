@@ -1,6 +1,6 @@
 use Rattle.std.proofs.Common.{◌≡◌, ◌+◌, ◌++◌, ◌≤◌, drop, map, max, sum}
 use Rattle.mp_logic.specs.Lists.{greatest}
-use Rattle.mp_subst.specs.Subst.{widest_at}
+use Rattle.mp_term.specs.Subst.{widest_at}
 use Rattle.mp_schema.specs.Sequents.{wide_of}
 use Rattle.mp_schema.specs.Values.{instance_of}
 use Rattle.mp_build.specs.Rooms.{room, room_bound, IsNarrowSomewhere}

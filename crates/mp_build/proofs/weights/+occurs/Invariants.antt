@@ -1,6 +1,6 @@
 use Rattle.std.proofs.Common.{◌≡◌, drop, map}
-use Rattle.mp_subst.specs.Subst.{occurs_in, any_true}
-use Rattle.mp_subst.proofs.Layers.{occurs_bound}
+use Rattle.mp_term.specs.Subst.{occurs_in, any_true}
+use Rattle.mp_term.proofs.Layers.{occurs_bound}
 use Rattle.mp_build.proofs.weights.+occurs.Given as goal
 
 abbrev pub invariant-loop-sub : goal.invariant-loop-sub

@@ -1,6 +1,6 @@
 use Rattle.std.proofs.Common.{◌≡◌, ◌+◌, ◌≤◌, drop, map, max, sum}
 use Rattle.mp_logic.specs.Lists.{greatest}
-use Rattle.mp_subst.specs.Sizes.{sub_size, sub_size_bound, sub_depth, sub_depth_bound}
+use Rattle.mp_term.specs.Sizes.{sub_size, sub_size_bound, sub_depth, sub_depth_bound}
 use Rattle.mp_build.specs.Sizes.{behind_ones}
 use Rattle.mp_build.proofs.weights.+weigh_under.Given as goal
 

@@ -1,11 +1,7 @@
-use Rattle.mp_match.proofs.Narrow.{narrow-goal}
 use Rattle.mp_match.proofs.SequentCovers.{sequent-covered}
 use Rattle.mp_match.proofs.SequentMatch.{sequent-instance}
 use Rattle.mp_match.proofs.TermMatch.{term-covered, term-instance}
 use Rattle.mp_match.proofs.laws.match_laws.Goals as goal
-
-pub returns-clause-narrow : goal.returns-clause-narrow
-returns-clause-narrow c = λ s limits few. narrow-goal s limits few
 
 pub returns-clause-sequents : goal.returns-clause-sequents
 returns-clause-sequents c = λ s first goal' conclusion two scoped narrow.

@@ -1,6 +1,6 @@
 use Rattle.std.proofs.Common.{◌≡◌, ◌++◌, ◌+◌, ◌-◌, length, map, drop, IsTrue}
 use Rattle.mp_schema.specs.Conditions.{seen, Seen, all_variables}
-use Rattle.mp_match.specs.Matching.{argument}
+use Rattle.mp_schema.specs.Conditions.{argument}
 use Rattle.mp_match.specs.Places.{ground_of, levels_at}
 use Rattle.mp_match.proofs.levels.levels_of.Given as goal
 

@@ -1,5 +1,5 @@
 use Rattle.std.proofs.Common.{sym, ◌≡◌, Some, None, arith}
-use Rattle.mp_subst.proofs.Renaming.{few_levels}
+use Rattle.mp_term.proofs.Renaming.{few_levels}
 use Rattle.mp_schema.specs.Values.{find_meta}
 use Rattle.mp_match.proofs.Steps.{meta_none, meta_known, meta_new}
 use Rattle.mp_match.proofs.patterns.match_meta.Goals as goal

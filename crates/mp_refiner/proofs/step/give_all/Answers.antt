@@ -1,6 +1,7 @@
 use Rattle.std.proofs.Common.{arith, ◌≡◌, Some, None, sym, ◌∙◌}
 use Rattle.mp_refiner.specs.Ready.{IsUsable}
-use Rattle.mp_refiner.proofs.Giving.{same_count, for-at, given_facts, given_narrow, given_of, given-next, given-fails, given-end, given-ctxs, new-next, new-here}
+use Rattle.mp_refiner.proofs.Giving.{same_count, for-at, given_narrow, given_of, given-next, given-fails, given-end, given-ctxs, new-next, new-here}
+use Rattle.mp_refiner.specs.laws.Asked.{for_need}
 use Rattle.mp_refiner.proofs.step.give_all.Goals as goal
 
 pub bounds-given-place : goal.bounds-given-place
@@ -10,7 +11,7 @@ pub give-requires : goal.give-requires
 give-requires c =
     let n = c.index-needs-place.result in
     let g = c.index-given-place.result in
-    let facts = given_facts n g (for-at c.args.needs.now c.args.given.now c.loop-place.place n g c.requires.count (omega arith) c.index-needs-place.is c.index-given-place.is) in
+    let facts = for_need n g (for-at c.args.needs.now c.args.given.now c.loop-place.place n g c.requires.count (omega arith) c.index-needs-place.is c.index-given-place.is) in
     let u : IsUsable c.args.inst.now.ctxs n = rw c.index-needs-place.is (c.requires.usable c.loop-place.place n (omega arith)) in
     let same = c.loop-place.invariant.ctxs in
     let fresh = new-here c.args.needs.now c.loop-place.place n c.loop-place.inst.metas (omega arith) c.index-needs-place.is c.loop-place.invariant.new in

@@ -1,5 +1,5 @@
 use Rattle.mp_refiner.specs.laws.Asked.{asked}
-use Rattle.mp_refiner.proofs.Stepping.{usable_needs, new_needs, closed_new, ready_premises, step_answer, answer_good, answer_narrow}
+use Rattle.mp_refiner.proofs.Stepping.{match_made, none_answer, bad_answer, usable_needs, new_needs, closed_new, ready_premises, step_answer, answer_good, answer_narrow}
 use Rattle.mp_refiner.proofs.step.rule_step.Goals as goal
 
 pub match_sequent-requires-clause-conclusion : goal.match_sequent-requires-clause-conclusion
@@ -15,7 +15,8 @@ give_all-requires-clause-usable c =
     let g = c.args.given.now in
     let q = c.args.goal.now in
     let a = asked r c.args.first g q c.requires.allowed c.requires.good in
-    usable_needs r c.args.first g q c.requires.rule a c.in-Ok.matched c.in-Some.inst c.in-Ok.ensures.value c.in-Some.is c.as_slice.result.now c.as_slice.ensures
+    usable_needs r c.args.first g q c.requires.rule c.requires.allowed a c.in-Some.inst
+    (match_made r.concl c.args.first q c.in-Ok.matched c.in-Some.inst c.in-Some.is c.in-Ok.ensures.instance c.in-Ok.ensures.covers c.in-Ok.ensures.spread) c.as_slice.result.now c.as_slice.ensures
 
 pub give_all-requires-clause-new : goal.give_all-requires-clause-new
 give_all-requires-clause-new c =
@@ -23,7 +24,8 @@ give_all-requires-clause-new c =
     let g = c.args.given.now in
     let q = c.args.goal.now in
     let a = asked r c.args.first g q c.requires.allowed c.requires.good in
-    new_needs r c.args.first g q c.requires.rule a c.in-Ok.matched c.in-Some.inst c.in-Ok.ensures.value c.in-Some.is c.as_slice.result.now c.as_slice.ensures
+    new_needs r c.args.first g q c.requires.rule c.requires.allowed a c.in-Some.inst
+    (match_made r.concl c.args.first q c.in-Ok.matched c.in-Some.inst c.in-Some.is c.in-Ok.ensures.instance c.in-Ok.ensures.covers c.in-Ok.ensures.spread) c.as_slice.result.now c.as_slice.ensures
 
 pub build_kids-requires-clause-closed : goal.build_kids-requires-clause-closed
 build_kids-requires-clause-closed c =
@@ -31,7 +33,8 @@ build_kids-requires-clause-closed c =
     let g = c.args.given.now in
     let q = c.args.goal.now in
     let a = asked r c.args.first g q c.requires.allowed c.requires.good in
-    closed_new r c.args.first g q c.requires.rule a c.in-Ok.matched c.in-Some.inst c.in-Ok.ensures.value c.in-Some.is c.as_slice.result.now c.as_slice.ensures
+    closed_new r c.args.first g q c.requires.rule c.requires.allowed a c.in-Some.inst
+    (match_made r.concl c.args.first q c.in-Ok.matched c.in-Some.inst c.in-Some.is c.in-Ok.ensures.instance c.in-Ok.ensures.covers c.in-Ok.ensures.spread) c.as_slice.result.now c.as_slice.ensures
     c.give_all.new.inst c.as_slice-2.result.now c.as_slice-2.ensures c.in-Ok-true.field-0 c.in-Ok-true.ensures c.in-Ok-true.field-0-test
 
 pub build_kids-requires-clause-ready : goal.build_kids-requires-clause-ready
@@ -40,7 +43,8 @@ build_kids-requires-clause-ready c =
     let g = c.args.given.now in
     let q = c.args.goal.now in
     let a = asked r c.args.first g q c.requires.allowed c.requires.good in
-    ready_premises r c.args.first g q c.requires.rule a c.in-Ok.matched c.in-Some.inst c.in-Ok.ensures.value c.in-Some.is c.as_slice.result.now c.as_slice.ensures
+    ready_premises r c.args.first g q c.requires.rule c.requires.allowed a c.in-Some.inst
+    (match_made r.concl c.args.first q c.in-Ok.matched c.in-Some.inst c.in-Some.is c.in-Ok.ensures.instance c.in-Ok.ensures.covers c.in-Ok.ensures.spread) c.as_slice.result.now c.as_slice.ensures
     c.give_all.new.inst c.as_slice-2.result.now c.as_slice-2.ensures c.in-Ok-true.field-0 c.in-Ok-true.ensures c.in-Ok-true.field-0-test
     c.as_slice-in-Ok-true.result.now c.as_slice-in-Ok-true.ensures
 
@@ -51,7 +55,8 @@ returns-in-Ok-true c =
     let q = c.args.goal.now in
     let a = asked r c.args.first g q c.requires.allowed c.requires.good in
     let answer =
-    step_answer r c.args.first g q c.requires.rule a c.in-Ok.matched c.in-Some.inst c.in-Ok.ensures.value c.in-Some.is c.as_slice.result.now c.as_slice.ensures
+    step_answer r c.args.first g q c.requires.rule c.requires.allowed a c.in-Some.inst
+    (match_made r.concl c.args.first q c.in-Ok.matched c.in-Some.inst c.in-Some.is c.in-Ok.ensures.instance c.in-Ok.ensures.covers c.in-Ok.ensures.spread) c.as_slice.result.now c.as_slice.ensures
     c.give_all.new.inst c.as_slice-2.result.now c.as_slice-2.ensures c.in-Ok-true.field-0 c.in-Ok-true.ensures c.in-Ok-true.field-0-test
     c.as_slice-in-Ok-true.result.now c.as_slice-in-Ok-true.ensures c.build_kids.result c.build_kids.ensures
     in
@@ -60,3 +65,21 @@ returns-in-Ok-true c =
       good = answer_good r c.args.first g q c.build_kids.result answer a;
       narrow = answer_narrow r c.args.first g q c.build_kids.result answer;
     }
+
+pub returns-in-Ok-false-clause-answer : goal.returns-in-Ok-false-clause-answer
+returns-in-Ok-false-clause-answer c =
+    let r = c.args.rule.now in
+    let g = c.args.given.now in
+    let q = c.args.goal.now in
+    let a = asked r c.args.first g q c.requires.allowed c.requires.good in
+    bad_answer r c.args.first g q c.requires.rule c.requires.allowed a c.in-Some.inst
+    (match_made r.concl c.args.first q c.in-Ok.matched c.in-Some.inst c.in-Some.is c.in-Ok.ensures.instance c.in-Ok.ensures.covers c.in-Ok.ensures.spread) c.as_slice.result.now c.as_slice.ensures
+    c.give_all.new.inst c.as_slice-2.result.now c.as_slice-2.ensures c.in-Ok-false.field-0 c.in-Ok-false.ensures c.in-Ok-false.field-0-test
+
+pub returns-in_default-matched-clause-answer : goal.returns-in_default-matched-clause-answer
+returns-in_default-matched-clause-answer c =
+    let r = c.args.rule.now in
+    let g = c.args.given.now in
+    let q = c.args.goal.now in
+    let a = asked r c.args.first g q c.requires.allowed c.requires.good in
+    none_answer r c.args.first g q c.requires.rule c.requires.allowed a c.in-Ok.matched c.in_default-matched.is c.in-Ok.ensures.instance

@@ -7,9 +7,10 @@ use Rattle.mp_schema.specs.Faults.{is_consistent, occurrences_of_rule}
 use Rattle.mp_schema.specs.Occurrences.{Occurrence, occurrences_in, occurrences_in_item, occurrences_in_schema}
 use Rattle.mp_theory.specs.declared.rule.Need.{Need}
 use Rattle.mp_theory.specs.Needs.{needs_of}
-use Rattle.mp_refiner.specs.laws.Lists.{In, in-left, in-right, in-split, in-flat}
-use Rattle.mp_refiner.specs.laws.Kinds.{Kind, kind_of, same_kinds, context_occurs, occurs_context, has_all-has, plain}
-use Rattle.mp_refiner.specs.laws.Uses.{UsedIn, NeedIn, need-met, need-from}
+use Rattle.mp_schema.specs.Occurrences.{In}
+use Rattle.mp_schema.proofs.Lists.{in-left, in-right, in-split, in-flat}
+use Rattle.mp_schema.proofs.UseKinds.{Kind, kind_of, same_kinds, context_occurs, occurs_context, has_all-has, plain}
+use Rattle.mp_theory.proofs.Uses.{UsedIn, NeedIn, need-met, need-from}
 
 abbrev pub kind_of_need : Need → Kind
 kind_of_need n = record { is_context = false; name = n.name; ctxs = n.ctxs; count = n.arity }

@@ -18,8 +18,9 @@ use Rattle.mp_schema.specs.Induction.{each_pattern, OfEachBody, OfEachArg}
 use Rattle.mp_schema.proofs.Layers.{occurrences_in-Var, occurrences_in-Op, occurrences_in-Meta, occurrences_in_bound-is}
 use Rattle.mp_theory.specs.declared.rule.Need.{Need}
 use Rattle.mp_theory.specs.Needs.{all_uses, uses_of, uses_bound, item_uses, schema_uses, is_needed, joined_by, first_uses, needs_of}
-use Rattle.mp_refiner.specs.laws.Lists.{In, in-split, in-flat, flat-in}
-use Rattle.mp_refiner.specs.laws.Kinds.{same_name, nat_eq-itself}
+use Rattle.mp_schema.specs.Occurrences.{In}
+use Rattle.mp_schema.proofs.Lists.{in-split, in-flat, flat-in}
+use Rattle.mp_schema.proofs.UseKinds.{same_name, nat_eq-itself}
 
 -- ## Uses are the occurrences that are no contexts
 

@@ -1,5 +1,5 @@
 -- The instances of a pattern or a schema that give a term or a goal.
-use Rattle.std.specs.Prelude.{◌≡◌, ℕ, List, [], ◌∷◌, length, IsTrue, Option, Some, None}
+use Rattle.std.specs.Prelude.{◌≡◌, ℕ, List, [], ◌∷◌, length, Bool, true, false, IsTrue, IsSome, Option, Some, None}
 use Rattle.mp_logic.specs.declared.sym.Sym.{Sym}
 use Rattle.mp_term.specs.declared.term.Param.{Param}
 use Rattle.mp_term.specs.declared.term.Term.{Term}
@@ -10,7 +10,8 @@ use Rattle.mp_schema.specs.declared.instance.Inst.{Inst}
 use Rattle.mp_schema.specs.declared.pattern.Pattern.{Pattern}
 use Rattle.mp_schema.specs.declared.schema.Schema.{Schema}
 use Rattle.mp_schema.specs.Instances.{Ground, upto, inst_of, fits}
-use Rattle.mp_schema.specs.Conditions.{has, context_names}
+use Rattle.mp_schema.specs.Conditions.{has, context_names, has_two_contexts, is_conclusion}
+use Rattle.mp_schema.specs.Occurrences.{In, Occurrence, occurrences_in_schema, holes_in_schema}
 use Rattle.mp_schema.specs.Sequents.{Instance, first_spot, behind_all, seq, schema_fits}
 use Rattle.mp_schema.specs.Values.{find_meta, find_param, find_ctx, first_variable_of, instance_of}
 
@@ -20,6 +21,16 @@ pub record Agrees (v : Instance) (i : Inst) : Type 0 where
   pub ctxs : (name : Sym) (x : CtxVal) → find_ctx i.ctxs name ≡ Some x → v.kept name ≡ x.hyps
   pub metas : (name : Sym) (x : MetaVal) → find_meta i.metas name ≡ Some x → v.values.meta name ≡ x.body
   pub params : (name : Sym) (p : Param) → find_param i.params name ≡ Some p → v.values.param name ≡ p
+
+-- the instances have the same value of this name, which is a context's or a second-order variable's
+abbrev pub SameValue : Instance → Instance → Bool → Sym → Type 0
+SameValue v w true name = v.kept name ≡ w.kept name
+SameValue v w false name = v.values.meta name ≡ w.values.meta name
+
+-- the instances have the same values where these names occur, and the same parameters of these holes
+pub record AgreeOn (v w : Instance) (os : List Occurrence) (holes : List Sym) : Type 0 where
+  pub values : (o : Occurrence) → In o os → SameValue v w o.is_context o.name
+  pub params : (name : Sym) → In name holes → v.values.param name ≡ w.values.param name
 
 -- ## Goals
 
@@ -39,6 +50,12 @@ pub record GivesGoal (s : Schema) (first : Option ℕ) (goal : Sequent) (v : Ins
   pub fit : IsTrue (schema_fits v s)
   pub sized : HasFirst v s first
   pub same : seq v s ≡ goal
+
+-- two instances that make a conclusion one goal agree on every name of the conclusion
+abbrev pub OneInstance : Type 0
+OneInstance =
+    (s : Schema) (first : Option ℕ) (goal : Sequent) (v w : Instance) → IsTrue (is_conclusion s) → (IsTrue (has_two_contexts s) → IsSome first) →
+    GivesGoal s first goal v → GivesGoal s first goal w → AgreeOn v w (occurrences_in_schema s) (holes_in_schema s)
 
 -- each context's first variable is at the level at which the context begins
 abbrev pub Begins : Inst → Schema → Type 0

@@ -12,9 +12,10 @@ use Rattle.mp_schema.specs.declared.schema.Schema.{Schema}
 use Rattle.mp_schema.specs.Conditions.{Before, nothing_before, past, past_all, each_item, has, has_all, is_apart, is_known, contexts_among, context_names, lists_known, pattern_placed, all_placed, item_placed, is_placed}
 use Rattle.mp_schema.specs.Occurrences.{Occurrence, occurrences_in, occurrences_in_item, occurrences_in_schema}
 use Rattle.mp_schema.proofs.Told.{known_use, lists_known-told}
-use Rattle.mp_refiner.specs.laws.Lists.{In, in-split, all-in}
-use Rattle.mp_refiner.specs.laws.Kinds.{same_name, context_at}
-use Rattle.mp_refiner.specs.laws.Agreeing.{and_both}
+use Rattle.mp_schema.specs.Occurrences.{In}
+use Rattle.mp_schema.proofs.Lists.{in-split, all-in}
+use Rattle.mp_schema.proofs.UseKinds.{same_name, context_at}
+use Rattle.mp_schema.proofs.Agreeing.{and_both}
 
 -- each name of the first list is in the second
 abbrev pub IsWithin : List Sym → List Sym → Type 0

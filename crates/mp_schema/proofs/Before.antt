@@ -12,9 +12,8 @@ use Rattle.mp_term.specs.Induction.{OfEachBody, each_term}
 use Rattle.mp_term.specs.Terms.{all_true, depth_of}
 use Rattle.mp_logic.specs.Lists.{greatest}
 use Rattle.mp_term.specs.Limits.{few_binders_of, is_shallow}
-use Rattle.mp_term.proofs.Layers.{few_bound, few-Var, few-Op, few_bound-is, depth_bound, depth-Var, depth-Op, depth_bound-is}
-use Rattle.mp_subst.specs.Subst.{under, sub_of, sub_bound_of, sub_each}
-use Rattle.mp_subst.proofs.Layers.{sub-Op, sub_bound-is}
+use Rattle.mp_term.proofs.Layers.{few_bound, few-Var, few-Op, few_bound-is, depth_bound, depth-Var, depth-Op, depth_bound-is, sub-Op, sub_bound-is}
+use Rattle.mp_term.specs.Subst.{under, sub_of, sub_bound_of, sub_each}
 
 -- a test that each body of an operator passes where the operator does, and each term where it does after a substitution
 pub record IsInherited (test : Term → Bool) : Type 0 where

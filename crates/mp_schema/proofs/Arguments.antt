@@ -5,10 +5,10 @@ use Rattle.std.proofs.lemmas.Bool.Decides.{nat_tests}
 use Rattle.std.proofs.lemmas.List.{length-append}
 use Rattle.mp_schema.specs.Instances.{upto}
 use Rattle.mp_schema.specs.Conditions.{Seen, is_level_below, all_variables, all_apart, args_fine, or_zero}
-use Rattle.mp_match.specs.Matching.{argument}
-use Rattle.mp_match.proofs.Equal.{both_true}
-use Rattle.mp_match.proofs.Ranges.{length-upto}
-use Rattle.mp_match.proofs.Apart.{Apart, Below, Apart-from, Apart-to, Below-from, Below-to, Apart-append, Apart-left, Apart-right, Apart-differ, Below-append, Below-left, Below-right, Below-more, Apart-upto, Below-upto, Below-Differ-upto, Differ-append, chosen, Apart-chosen, Differ-chosen, Below-chosen, Apart-tested}
+use Rattle.mp_schema.specs.Conditions.{argument}
+use Rattle.mp_schema.proofs.Agreeing.{and_both}
+use Rattle.mp_schema.proofs.Ranges.{length-upto}
+use Rattle.mp_schema.proofs.Apart.{Apart, Below, Apart-from, Apart-to, Below-from, Below-to, Apart-append, Apart-left, Apart-right, Apart-differ, Below-append, Below-left, Below-right, Below-more, Apart-upto, Below-upto, Below-Differ-upto, Differ-append, chosen, Apart-chosen, Differ-chosen, Below-chosen, Apart-tested}
 
 abbrev pub levels_of_args : List Seen → List ℕ
 levels_of_args args = map (λ (a : Seen). or_zero a.level) args
@@ -19,14 +19,14 @@ variable-below d (Some l) h = grind (arith, nat_tests, h)
 
 args-below : (d : ℕ) (args : List Seen) → all_variables d args ≡ true → Below d (levels_of_args args)
 args-below d [] h i lt = absurd (omega arith)
-args-below d (a ∷ rest) h zero lt = let k = both_true (is_level_below d a.level) (all_variables d rest) h in variable-below d a.level k.0
-args-below d (a ∷ rest) h (suc i) lt = let k = both_true (is_level_below d a.level) (all_variables d rest) h in args-below d rest k.1 i (omega arith)
+args-below d (a ∷ rest) h zero lt = let k = and_both (is_level_below d a.level) (all_variables d rest) h in variable-below d a.level k.0
+args-below d (a ∷ rest) h (suc i) lt = let k = and_both (is_level_below d a.level) (all_variables d rest) h in args-below d rest k.1 i (omega arith)
 
 pub fine-variables : (d : ℕ) (args : List Seen) → args_fine d args ≡ true → all_variables d args ≡ true
-fine-variables d args h = (both_true (all_variables d args) (all_apart (levels_of_args args)) h).0
+fine-variables d args h = (and_both (all_variables d args) (all_apart (levels_of_args args)) h).0
 
 fine-apart : (d : ℕ) (args : List Seen) → args_fine d args ≡ true → all_apart (levels_of_args args) ≡ true
-fine-apart d args h = (both_true (all_variables d args) (all_apart (levels_of_args args)) h).1
+fine-apart d args h = (and_both (all_variables d args) (all_apart (levels_of_args args)) h).1
 
 -- the arguments are chosen from the pattern's levels
 pub arguments-chosen : (levels : List ℕ) (args : List Seen) → map (λ (a : Seen). argument levels a.level) args ≡ chosen levels (levels_of_args args)

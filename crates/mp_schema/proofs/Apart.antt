@@ -7,8 +7,8 @@ use Rattle.std.proofs.lemmas.Map.Keys.{apart_from_distinct, IsDistinct-from_apar
 use Rattle.std.proofs.lemmas.List.{length-append, length-map, get_or-map, get_or_append_left, get_or-append_right, get_or_default}
 use Rattle.mp_schema.specs.Instances.{upto}
 use Rattle.mp_schema.specs.Conditions.{apart_from, all_apart}
-use Rattle.mp_match.proofs.Equal.{both_true}
-use Rattle.mp_match.proofs.Ranges.{length-upto, get_or-upto}
+use Rattle.mp_schema.proofs.Agreeing.{and_both}
+use Rattle.mp_schema.proofs.Ranges.{length-upto, get_or-upto}
 
 -- no number is in the list twice
 abbrev pub Apart : List ℕ → Type 0
@@ -157,14 +157,14 @@ module _ (xs : List ℕ) where
 apart-from : (x : ℕ) (xs : List ℕ) → apart_from x xs ≡ true → AllByRecursion (λ y. nat_eq x y ≡ false) xs
 apart-from x [] h = tt
 apart-from x (y ∷ ys) h =
-    let k = both_true (not (nat_eq x y)) (apart_from x ys) h in
+    let k = and_both (not (nat_eq x y)) (apart_from x ys) h in
     let first = k.0 in
     (grind (arith, nat_tests, first), apart-from x ys k.1)
 
 distinct-from : (xs : List ℕ) → all_apart xs ≡ true → IsDistinct nat_eq xs
 unfolding IsDistinct
 distinct-from [] h = tt
-distinct-from (x ∷ xs) h = let k = both_true (apart_from x xs) (all_apart xs) h in (apart-from x xs k.0, distinct-from xs k.1)
+distinct-from (x ∷ xs) h = let k = and_both (apart_from x xs) (all_apart xs) h in (apart-from x xs k.0, distinct-from xs k.1)
 
 pub Apart-tested : (xs : List ℕ) → all_apart xs ≡ true → Apart xs
 Apart-tested xs h = Apart-from xs (distinct-from xs h)

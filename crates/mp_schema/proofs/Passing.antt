@@ -5,7 +5,7 @@ use Rattle.std.specs.List.{flat_map, list_all, AllByRecursion}
 use Rattle.mp_logic.specs.declared.sym.Sym.{Sym}
 use Rattle.mp_term.specs.declared.term.Term.{Term, Var}
 use Rattle.mp_term.specs.declared.term.Bound.{Bound}
-use Rattle.mp_subst.specs.Subst.{variables}
+use Rattle.mp_term.specs.Subst.{variables}
 use Rattle.mp_schema.specs.declared.pattern.Pattern.{Pattern}
 use Rattle.mp_schema.specs.declared.pattern.Pattern as pat
 use Rattle.mp_schema.specs.declared.pattern.ParamPat.{ParamPat}
@@ -16,13 +16,13 @@ use Rattle.mp_schema.specs.declared.schema.Schema.{Schema}
 use Rattle.mp_schema.specs.Faults.{are_distinct, has_level}
 use Rattle.mp_schema.specs.Instances.{Values, Ground, made_each, param_of, inst_of, inst_bound}
 use Rattle.mp_schema.specs.Induction.{each_pattern, OfEachBody, OfEachArg}
-use Rattle.mp_schema.specs.Occurrences.{Occurrence, occurrences_in, occurrences_in_bound, occurrences_in_item, occurrences_in_schema, variable_level}
+use Rattle.mp_schema.specs.Occurrences.{Occurrence, occurrences_in, occurrences_in_bound, occurrences_in_item, occurrences_in_schema, variable_level, In}
 use Rattle.mp_schema.specs.Sequents.{Instance, Spot, first_spot, ground_at, telescope, behind, hyps_from, behind_all, concl_at, seq}
 use Rattle.mp_schema.proofs.Layers.{inst-Op, inst-Meta, inst_bound-is, level_of-Op, level_of-Meta, occurrences_in-Var, occurrences_in-Op, occurrences_in-Meta, occurrences_in_bound-is}
-use Rattle.mp_refiner.specs.laws.Lists.{In, in-left, in-right, in-split, list_all-append}
-use Rattle.mp_refiner.specs.laws.Kinds.{Kind, kind_of, context_at, plain}
-use Rattle.mp_refiner.specs.laws.Agreeing.{and_both}
-use Rattle.mp_refiner.specs.laws.Before.{IsInherited}
+use Rattle.mp_schema.proofs.Lists.{in-left, in-right, in-split, list_all-append}
+use Rattle.mp_schema.proofs.UseKinds.{Kind, kind_of, context_at, plain}
+use Rattle.mp_schema.proofs.Agreeing.{and_both}
+use Rattle.mp_schema.proofs.Before.{IsInherited}
 
 -- ## Arguments that are variables
 

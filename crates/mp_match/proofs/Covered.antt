@@ -18,9 +18,10 @@ use Rattle.mp_schema.specs.Values.{find_meta, find_param, find_ctx}
 use Rattle.mp_schema.proofs.Layers.{occurrences_in-Var, occurrences_in-Op, occurrences_in-Meta, occurrences_in_bound-is, holes_in-Var, holes_in-Op, holes_in-Meta, holes_in_bound-is}
 use Rattle.mp_match.specs.Covering.{is_there, covered, covered_bound, param_covered, is_covered, item_covered, schema_covered}
 use Rattle.mp_match.proofs.CoverLaws.{covered-Op, covered-Meta, covered_bound-is}
-use Rattle.mp_refiner.specs.laws.Lists.{In, in-split}
-use Rattle.mp_refiner.specs.laws.Kinds.{Kind, kind_of, context_at, plain}
-use Rattle.mp_refiner.specs.laws.Agreeing.{and_both}
+use Rattle.mp_schema.specs.Occurrences.{In}
+use Rattle.mp_schema.proofs.Lists.{in-split}
+use Rattle.mp_schema.proofs.UseKinds.{Kind, kind_of, context_at, plain}
+use Rattle.mp_schema.proofs.Agreeing.{and_both}
 
 module _ (hm hp : Sym → Bool) where
   -- the names that occur

@@ -15,7 +15,8 @@ use Rattle.mp_logic.specs.Lists.{same_bool}
 use Rattle.mp_schema.specs.Occurrences.{Occurrence, occurrences_in, occurrences_in_bound, occurrences_in_item, variable_level, first_named}
 use Rattle.mp_schema.specs.Induction.{each_pattern, OfEachBody, OfEachArg}
 use Rattle.mp_schema.proofs.Layers.{occurrences_in-Var, occurrences_in-Op, occurrences_in-Meta, occurrences_in_bound-is}
-use Rattle.mp_refiner.specs.laws.Lists.{In, in-right, in-split, all-in, find-Some, find-None}
+use Rattle.mp_schema.specs.Occurrences.{In}
+use Rattle.mp_schema.proofs.Lists.{in-right, in-split, all-in, find-Some, find-None}
 
 -- what an occurrence says of its name's value: whether it is a context's, and what the value may use
 pub record Kind : Type 0 where

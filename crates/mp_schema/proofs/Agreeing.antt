@@ -7,7 +7,7 @@ use Rattle.mp_term.specs.declared.term.Param.{Param}
 use Rattle.mp_term.specs.declared.term.Term.{Term, Var, Op}
 use Rattle.mp_term.specs.declared.term.Bound.{Bound}
 use Rattle.mp_term.specs.declared.sequent.Sequent.{Sequent}
-use Rattle.mp_subst.specs.Subst.{sub_of, variables}
+use Rattle.mp_term.specs.Subst.{sub_of, variables}
 use Rattle.mp_schema.specs.declared.pattern.Pattern.{Pattern}
 use Rattle.mp_schema.specs.declared.pattern.Pattern as pat
 use Rattle.mp_schema.specs.declared.pattern.ParamPat.{ParamPat}
@@ -19,12 +19,13 @@ use Rattle.mp_schema.specs.declared.schema.Schema.{Schema}
 use Rattle.mp_schema.specs.Conditions.{Before, nothing_before, past, past_all, each_item, has, has_all, is_apart, is_known, lists_known, lists_known_bound, pattern_placed, all_placed, item_placed, is_placed}
 use Rattle.mp_schema.specs.Instances.{Values, Ground, upto, made_each, param_of, inst_of, inst_bound, all_pass}
 use Rattle.mp_schema.specs.Induction.{each_pattern, OfEachBody, OfEachArg}
-use Rattle.mp_schema.specs.Occurrences.{Occurrence, occurrences_in, occurrences_in_bound, occurrences_in_item, occurrences_in_schema, variable_level, hole_in_param, holes_in, holes_in_bound, holes_in_item, holes_in_schema}
+use Rattle.mp_schema.specs.Occurrences.{Occurrence, occurrences_in, occurrences_in_bound, occurrences_in_item, occurrences_in_schema, variable_level, hole_in_param, holes_in, holes_in_bound, holes_in_item, holes_in_schema, In}
 use Rattle.mp_schema.specs.Sequents.{Instance, Spot, first_spot, ground_at, telescope, behind, hyps_from, behind_all, concl_at, seq}
 use Rattle.mp_logic.specs.Lists.{joined}
+use Rattle.mp_schema.specs.Solutions.{SameValue}
 use Rattle.mp_schema.proofs.Layers.{inst-Var, inst-Op, inst-Meta, inst_bound-is, lists_known-Op, lists_known-Meta, lists_known_bound-is, occurrences_in-Op, occurrences_in-Meta, occurrences_in_bound-is, holes_in-Op, holes_in-Meta, holes_in_bound-is}
-use Rattle.mp_refiner.specs.laws.Lists.{In, in-left, in-right, in-split}
-use Rattle.mp_refiner.specs.laws.Kinds.{Kind, kind_of, same_name, context_at, plain}
+use Rattle.mp_schema.proofs.Lists.{in-left, in-right, in-split}
+use Rattle.mp_schema.proofs.UseKinds.{Kind, kind_of, same_name, context_at, plain}
 
 pub and_both : (a b : Bool) → (a && b) ≡ true → (a ≡ true) × (b ≡ true)
 and_both true true e = (refl, refl)
@@ -33,7 +34,7 @@ and_both false b e = absurd cc
 
 -- ## Patterns
 
-module _ (g h : Ground) (v w : Values) (known : List Sym) (grounds : (cs : List Sym) → has_all known cs ≡ true → g cs ≡ h cs) where
+module _ (g h : Ground) (v w : Values) (known : List Sym) (grounds : (cs : List Sym) → is_known known cs ≡ true → g cs ≡ h cs) where
   abbrev SameMetas : List Occurrence → Type 0
   SameMetas os = (o : Occurrence) → In o os → v.meta o.name ≡ w.meta o.name
 
@@ -92,13 +93,12 @@ module _ (g h : Ground) (v w : Values) (known : List Sym) (grounds : (cs : List 
   same_meta : (n : Sym) (cs : List Sym) (args : List Pattern) → OfEachArg Same args → Same (pat.Meta n cs args)
   same_meta n cs args all metas holes k env m =
       let both = and_both (is_known known cs) (all_pass (map (lists_known known) args)) (sym (lists_known-Meta known n cs args) ∙ k) in
-      let lists = and_both (has_all known cs) (is_apart cs) both.0 in
       let here : v.meta n ≡ w.meta n =
       let o : Occurrence = record { is_context = false; name = n; ctxs = cs; levels = map variable_level args } in
       metas o (subst (In o) (sym (occurrences_in-Meta n cs args)) (inl refl)) in
       let others = same_args args all (λ x i. metas x (subst (In x) (sym (occurrences_in-Meta n cs args)) (inr i)))
       (λ x i. holes x (subst (In x) (sym (holes_in-Meta n cs args)) i)) both.1 env m in
-      let bases = grounds cs lists.0 in
+      let bases = grounds cs both.0 in
       inst-Meta g v n cs args env m
       ∙ ap (λ t. sub_of t (map Var (g cs) ++ made_each (map (inst_of g v) args) env m) m) here
       ∙ ap (λ ls. sub_of (w.meta n) (map Var ls ++ made_each (map (inst_of g v) args) env m) m) bases
@@ -124,13 +124,9 @@ module _ (g h : Ground) (v w : Values) (known : List Sym) (grounds : (cs : List 
 -- ## Schemata
 
 module _ (v w : Instance) where
-  abbrev pub SameValue : Bool → Sym → Type 0
-  SameValue true name = v.kept name ≡ w.kept name
-  SameValue false name = v.values.meta name ≡ w.values.meta name
-
   -- the instances have the same value of the occurrence
   abbrev pub SameAt : Kind → Type 0
-  SameAt k = SameValue k.is_context k.name
+  SameAt k = SameValue v w k.is_context k.name
 
   abbrev pub SameHole : Sym → Type 0
   SameHole name = v.values.param name ≡ w.values.param name
@@ -149,6 +145,9 @@ module _ (v w : Instance) where
     same_grounds pos known all cs k =
         ap (λ n. upto 0 n ++ joined (map (λ c. upto (pos c) (length (v.kept c))) cs)) ambient ∙ ap (λ ls. upto 0 w.ambient ++ ls) (same_blocks pos known cs all k)
 
+    known_grounds : (pos : Sym → ℕ) (known : List Sym) → ((c : Sym) → has known c ≡ true → v.kept c ≡ w.kept c) → (cs : List Sym) → is_known known cs ≡ true → ground_at v pos cs ≡ ground_at w pos cs
+    known_grounds pos known all cs k = same_grounds pos known all cs (and_both (has_all known cs) (is_apart cs) k).0
+
     abbrev Kept : Before → Type 0
     Kept b = (c : Sym) → has b.contexts c ≡ true → v.kept c ≡ w.kept c
 
@@ -159,13 +158,13 @@ module _ (v w : Instance) where
     SameNames names = (name : Sym) → In name names → SameHole name
 
     plain_metas : (p : Pattern) → SameOccurrences (occurrences_in p) → (o : Occurrence) → In o (occurrences_in p) → v.values.meta o.name ≡ w.values.meta o.name
-    plain_metas p all o i = subst (λ b. SameValue b o.name) (plain p o i) (all o i)
+    plain_metas p all o i = subst (λ b. SameValue v w b o.name) (plain p o i) (all o i)
 
     module _ (l : Spot) (b : Before) (kept : Kept b) where
       same_pattern : (p : Pattern) → SameOccurrences (occurrences_in p) → SameNames (holes_in p) → pattern_placed p b ≡ true → concl_at v p l ≡ concl_at w p l
       same_pattern p all holes k =
           let placed = and_both _ (lists_known b.contexts p) k in
-          same_inst (ground_at v l.pos) (ground_at w l.pos) v.values w.values b.contexts (same_grounds l.pos b.contexts kept) p (plain_metas p all) holes placed.1 (map Var l.env) l.next
+          same_inst (ground_at v l.pos) (ground_at w l.pos) v.values w.values b.contexts (known_grounds l.pos b.contexts kept) p (plain_metas p all) holes placed.1 (map Var l.env) l.next
 
       same_telescope : (ctxs : List Sym) (args : List Pattern) → has_all b.contexts ctxs ≡ true →
           ((env : List Term) (m : ℕ) → made_each (map (inst_of (ground_at v l.pos) v.values) args) env m ≡ made_each (map (inst_of (ground_at w l.pos) w.values) args) env m) →
@@ -219,7 +218,7 @@ module _ (v w : Instance) where
         let here : v.kept name ≡ w.kept name = all (context_at name ctxs args) (inl refl) in
         let args_all : SameOccurrences (flat_map occurrences_in args) =
         λ o i. all o (in-left o (occurrences_in_item (Ctx name ctxs args)) (flat_map occurrences_in_item is) (inr i)) in
-        let made = same_each (ground_at v l.pos) (ground_at w l.pos) v.values w.values b.contexts (same_grounds l.pos b.contexts kept) args b refl (plain_args args args_all)
+        let made = same_each (ground_at v l.pos) (ground_at w l.pos) v.values w.values b.contexts (known_grounds l.pos b.contexts kept) args b refl (plain_args args args_all)
         (λ n i. holes n (in-left n (flat_map holes_in args) (flat_map holes_in_item is) i)) placed.1 in
         let tele = same_telescope l b kept ctxs args known.0 made l.next 0 (v.kept name) ∙ ap (telescope w l ctxs args l.next 0) here in
         let pos = λ (other : Sym). (if nat_eq other.0 name.0 then l.next else l.pos other) in

@@ -3,11 +3,7 @@ use Rattle.std.proofs.Common.{◌≡◌, ◌⊎◌, inl, inr, zero, suc, List, [
 use Rattle.std.specs.Prelude.{◌&&◌, All}
 use Rattle.std.specs.List.{list_all, flat_map, find, AllByRecursion}
 use Rattle.std.proofs.lemmas.Grind.{common_steps}
-
--- x is an element
-abbrev pub In : {X : Type 0} → X → List X → Type 0
-In x [] = ⊥
-In x (y ∷ ys) = (y ≡ x) ⊎ In x ys
+use Rattle.mp_schema.specs.Occurrences.{In}
 
 abbrev pub value_or : {X : Type 0} → X → Option X → X
 value_or d None = d

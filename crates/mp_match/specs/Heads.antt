@@ -1,0 +1,11 @@
+-- Terms that are no instance of a pattern by their operators.
+use Rattle.std.specs.Prelude.{◌≡◌, ℕ, List, None}
+use Rattle.mp_term.specs.declared.term.Term.{Term}
+use Rattle.mp_schema.specs.declared.pattern.Pattern.{Pattern}
+use Rattle.mp_schema.specs.Instances.{Ground}
+use Rattle.mp_match.specs.declared.place.Found.{Found}
+use Rattle.mp_match.specs.Matching.{found_in}
+
+-- whatever is found before, the pattern finds nothing in the term
+abbrev pub FindsNothing : Pattern → Term → Type 0
+FindsNothing p t = (front : Ground) (levels : List ℕ) (scope : ℕ) (found : Found) → found_in front p levels scope t found ≡ None
