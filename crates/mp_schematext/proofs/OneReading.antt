@@ -8,7 +8,7 @@ use Rattle.mp_schema.specs.declared.pattern.ParamPat.TheVariants.{Lit, Hole}
 use Rattle.mp_words.specs.declared.word.Word.{Word}
 use Rattle.mp_words.specs.declared.word.Mark.TheVariants as mark
 use Rattle.mp_words.specs.declared.word.Keyword.TheVariants as keyword
-use Rattle.mp_words.specs.Parts.{Lacks, Ended, StuckEnded, IsCapAt, Both, StuckBoth, After, StuckAfter, StuckOptional, Separated, StuckSeparated, IsMark, IsName, IsNameBehind, StuckNameBehind, IsCapVar, HasOne, AreApart, HasOneStop, OneReading}
+use Rattle.mp_words.specs.Parts.{Lacks, EndedPart, StuckEnded, IsCapAt, Both, StuckBoth, After, StuckAfter, StuckOptional, Separated, StuckSeparated, IsMark, IsName, IsNameBehind, StuckNameBehind, IsCapVar, HasOne, AreApart, HasOneStop, OneReading}
 use Rattle.mp_termtext.specs.Grammar.{IsVariable, IsParamWord}
 use Rattle.mp_termtext.proofs.OneTerm.{one_binders}
 use Rattle.mp_words.proofs.Combine.{one_mark, two_marks, one_name, one_name_behind, one_cap_at, one_cap_var, one_placed, one_ended, one_both, one_after, one_optional, one_many, one_separated, one_listed}
@@ -17,7 +17,7 @@ use Rattle.mp_schematext.specs.declared.raw.RawPatternBound.{RawPatternBound}
 use Rattle.mp_schematext.specs.declared.raw.RawPattern.{RawPattern, Var, Op, Meta}
 use Rattle.mp_schematext.specs.declared.raw.RawItem.TheVariants as item
 use Rattle.mp_schematext.specs.declared.raw.RawSchema.{RawSchema}
-use Rattle.mp_schematext.specs.Grammar.{IsParamPatWord, IsParamPat, StuckParamPat, AreParamPats, StuckParamPats, AreContexts, StuckContexts, IsPattern, AreArguments, AreArgs, ArePatternSubs, ArePatternBounds, IsPatternBound, StuckPattern, StuckArguments, StuckArgs, StuckPatternSubs, StuckPatternBounds, StuckPatternBound, variable, second_order, operator, no_arguments, some_arguments, last_arg, more_args, no_subs, some_subs, last_bound, more_bounds, bound, no_pattern, in_contexts, in_arguments, in_params, in_subs, in_brackets, in_arg, behind_arg, in_other_args, in_braces, in_bound, behind_bound, in_other_bounds, in_binders, in_body, IsContext, StuckContext, IsHypothesis, StuckHypothesis, IsItem, StuckItem, AreItems, StuckItems, IsSchema, StuckSchema, ArePremises, StuckPremises, IsRule, StuckRule, IsTheory, StuckTheory}
+use Rattle.mp_schematext.specs.Grammar.{IsParamPatWord, IsParamPat, StuckParamPat, AreParamPats, StuckParamPats, AreContexts, StuckContexts, IsPattern, AreArguments, AreArgs, ArePatternSubs, ArePatternBounds, IsPatternBound, StuckPattern, StuckArguments, StuckArgs, StuckPatternSubs, StuckPatternBounds, StuckPatternBound, variable, second_order, operator, no_arguments, some_arguments, last_arg, more_args, no_subs, some_subs, last_bound, more_bounds, bound, no_pattern, in_contexts, in_arguments, in_params, in_subs, in_brackets, in_arg, behind_arg, in_other_args, in_braces, in_bound, behind_bound, in_other_bounds, in_binders, in_body, IsContext, StuckContext, IsHypothesis, StuckHypothesis, IsItem, StuckItem, AreItems, StuckItems, IsSchema, StuckSchema, ArePremises, StuckPremises, IsRawRule, StuckRule, IsTheory, StuckTheory}
 
 variable_has_one : HasOne IsVariable
 variable_has_one v w ts r s h k = let a : v.0 ≡ w.0 = cc in let b : v.1 ≡ w.1 = cc in let c : r ≡ s = cc in ((λ i. (a i, b i)), c)
@@ -319,8 +319,8 @@ one_arguments = record { value = arguments_has_one; apart = arguments_apart; sto
 
 one_context : OneReading IsContext StuckContext
 one_context =
-    one_both IsCapAt (Both AreContexts (Ended AreArguments (IsMark mark.Greater))) (Lacks IsCapAt) (StuckBoth AreContexts StuckContexts (StuckEnded AreArguments StuckArguments (IsMark mark.Greater))) one_cap_at
-    (one_both AreContexts (Ended AreArguments (IsMark mark.Greater)) StuckContexts (StuckEnded AreArguments StuckArguments (IsMark mark.Greater)) one_contexts
+    one_both IsCapAt (Both AreContexts (EndedPart AreArguments (IsMark mark.Greater))) (Lacks IsCapAt) (StuckBoth AreContexts StuckContexts (StuckEnded AreArguments StuckArguments (IsMark mark.Greater))) one_cap_at
+    (one_both AreContexts (EndedPart AreArguments (IsMark mark.Greater)) StuckContexts (StuckEnded AreArguments StuckArguments (IsMark mark.Greater)) one_contexts
     (one_ended AreArguments StuckArguments (IsMark mark.Greater) one_arguments (one_mark mark.Greater)))
 
 one_context_item : OneReading (After (IsMark mark.Less) IsContext) (StuckAfter (IsMark mark.Less) StuckContext)
@@ -381,13 +381,13 @@ one_tail =
     (one_after (IsMark mark.Colon) (Both ArePremises IsSchema) (StuckBoth ArePremises StuckPremises StuckSchema) (one_mark mark.Colon)
     (one_both ArePremises IsSchema StuckPremises StuckSchema one_premises one_schema))
 
-rule_has_one : HasOne IsRule
+rule_has_one : HasOne IsRawRule
 rule_has_one x y ts r s h k =
     let e = one_tail.value (x.name, (x.premises, x.concl)) (y.name, (y.premises, y.concl)) ts r s h k in
     ((λ i. record { name = (e.0 i).0; premises = (e.0 i).1.0; concl = (e.0 i).1.1 }), e.1)
 
-one_rule : OneReading IsRule StuckRule
+one_rule : OneReading IsRawRule StuckRule
 one_rule = record { value = rule_has_one; apart = λ x ts r s h k. one_tail.apart (x.name, (x.premises, x.concl)) ts r s h k; stop = one_tail.stop }
 
 pub one_theory : OneReading IsTheory StuckTheory
-one_theory = one_many IsRule StuckRule one_rule
+one_theory = one_many IsRawRule StuckRule one_rule

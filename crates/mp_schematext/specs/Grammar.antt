@@ -18,7 +18,7 @@ use Rattle.mp_schematext.specs.declared.raw.RawItem.{RawItem}
 use Rattle.mp_schematext.specs.declared.raw.RawItem.TheVariants as item
 use Rattle.mp_schematext.specs.declared.raw.RawSchema.{RawSchema}
 use Rattle.mp_schematext.specs.declared.raw.RawRule.{RawRule}
-use Rattle.mp_words.specs.Parts.{No, None_of, Lacks, IsMark, IsName, IsNameBehind, StuckNameBehind, IsCapAt, IsCapVar, Ended, StuckEnded, Both, StuckBoth, After, StuckAfter, Optional, StuckOptional, Separated, StuckSeparated, Listed, StuckListed, Many, StuckMany}
+use Rattle.mp_words.specs.Parts.{No, None_of, Lacks, IsMark, IsName, IsNameBehind, StuckNameBehind, IsCapAt, IsCapVar, EndedPart, StuckEnded, Both, StuckBoth, After, StuckAfter, Optional, StuckOptional, Separated, StuckSeparated, Listed, StuckListed, Many, StuckMany}
 use Rattle.mp_termtext.specs.Grammar.{IsVariable, IsParamWord, AreBinders, StuckBinders}
 
 -- a number or a string, or @ and the name of the hole
@@ -117,7 +117,7 @@ mutual
 
 -- Cap ctxs? args? >
 abbrev pub IsContext : RawName × (List RawName × List RawPattern) → List Word → List Word → Type 0
-IsContext = Both IsCapAt (Both AreContexts (Ended AreArguments (IsMark mark.Greater)))
+IsContext = Both IsCapAt (Both AreContexts (EndedPart AreArguments (IsMark mark.Greater)))
 
 -- a reading of a context after its < is stuck at the first of these words
 abbrev pub StuckContext : List Word → List Word → Type 0
@@ -165,8 +165,8 @@ abbrev pub StuckPremises : List Word → List Word → Type 0
 StuckPremises = StuckListed IsSchema StuckSchema (IsMark mark.Comma) (IsMark mark.Yields)
 
 -- rule NAME : premises ==> conclusion
-abbrev pub IsRule : RawRule → List Word → List Word → Type 0
-IsRule r = Both (IsNameBehind keyword.Rule) (After (IsMark mark.Colon) (Both ArePremises IsSchema)) (r.name, (r.premises, r.concl))
+abbrev pub IsRawRule : RawRule → List Word → List Word → Type 0
+IsRawRule r = Both (IsNameBehind keyword.Rule) (After (IsMark mark.Colon) (Both ArePremises IsSchema)) (r.name, (r.premises, r.concl))
 
 -- a reading of a rule is stuck at the first of these words
 abbrev pub StuckRule : List Word → List Word → Type 0
@@ -174,8 +174,8 @@ StuckRule = StuckBoth (IsNameBehind keyword.Rule) (StuckNameBehind keyword.Rule)
 
 -- the rules, and no word after them
 abbrev pub IsTheory : List RawRule → List Word → List Word → Type 0
-IsTheory = Many IsRule
+IsTheory = Many IsRawRule
 
 -- a reading of rules is stuck at the first of these words
 abbrev pub StuckTheory : List Word → List Word → Type 0
-StuckTheory = StuckMany IsRule StuckRule
+StuckTheory = StuckMany IsRawRule StuckRule

@@ -1,6 +1,6 @@
 ghost use Rattle.std.specs.Prelude.{◌<◌, ◌≤◌, [], length, IfOk};
 ghost use Rattle.mp_words.specs.Parts.{Reads};
-ghost use Rattle.mp_schematext.specs.Grammar.{IsHypothesis, StuckHypothesis, IsContext, StuckContext, IsItem, StuckItem, IsSchema, StuckSchema, IsRule, StuckRule, IsTheory, StuckTheory};
+ghost use Rattle.mp_schematext.specs.Grammar.{IsHypothesis, StuckHypothesis, IsContext, StuckContext, IsItem, StuckItem, IsSchema, StuckSchema, IsRawRule, StuckRule, IsTheory, StuckTheory};
 
 use crate::pattern::{Context, parse_arguments, parse_contexts, parse_pattern};
 use crate::raw::{RawItem, RawPattern, RawRule, RawSchema};
@@ -106,7 +106,7 @@ impl Reader for RawSchema {
 impl Reader for RawRule {
     type Raw = RawRule;
 
-    ghost is = { IsRule };
+    ghost is = { IsRawRule };
 
     ghost stops = { StuckRule };
 

@@ -3,16 +3,17 @@ mod Behind
 mod ChainRows
 mod DistinctNeeds
 mod EntryWalks
-pub mod Found
 mod GivenWalks
 mod GoodEntries
 mod GoodSequents
 mod GoodTerms
 mod MetNames
-pub mod OneScript
 mod RawTermInduction
 mod Shapes
 mod StepLists
 mod StrategyInduction
 mod StrategyLayers
 mod Tables
+pub mod Found
+pub mod GoodScripts
+pub mod OneScript

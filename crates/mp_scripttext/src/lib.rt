@@ -16,7 +16,7 @@ mod step_statics;
 mod syntax;
 mod table;
 
-pub use laws::{one_reading, one_text};
+pub use laws::{one_reading, one_text, read_goals_are_good};
 pub use raw::{RawEntry, RawGiven, RawStep, RawStrategy};
 pub use reading::read_script;
 pub use script::{Entry, Script};

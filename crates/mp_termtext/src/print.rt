@@ -146,7 +146,7 @@ fn push_in(out: &mut Vec<u8>, names: &Names, t: &Term, scope: u64) -> Result<(),
             push_bytes(out, names.text(*op))?;
             push_params(out, names, params)?;
             let mut begun = false;
-            for sub in subs.as_slice() {
+            for sub in subs.get().as_slice() {
                 if begun {
                     push_bytes(out, b"; ")?;
                 } else {

@@ -4,7 +4,7 @@ ghost use Rattle.mp_termtext.specs.Values.{IsFaultless, IsFaultlessBound, bound_
 
 use crate::scope::{level_of, push_names};
 use crate::{RawBound, RawHyp, RawParam, RawSequent, RawTerm};
-use mp_logic::{List, NoMemory, Sym};
+use mp_logic::{List, NoMemory, Shared, Sym};
 use mp_term::{Bound, Param, Sequent, Term};
 use std::alloc::Global;
 
@@ -53,10 +53,11 @@ pub(crate) fn build_term(
                 }
             }
             let params = values(alloc, params)?;
+            let subs = Shared::new(alloc, built)?;
             Ok(Term::Op {
                 op: *name,
                 params,
-                subs: built,
+                subs,
             })
         }
     }

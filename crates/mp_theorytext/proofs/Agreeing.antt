@@ -24,7 +24,7 @@ use Rattle.mp_schematext.specs.declared.raw.RawPattern as raw
 use Rattle.mp_theorytext.specs.declared.uses.First.{First}
 use Rattle.mp_theorytext.specs.Scopes.{level_in, syms_of}
 use Rattle.mp_theorytext.specs.Values.{in_32_bits, each_pattern_value, pattern_of, bound_of}
-use Rattle.mp_theorytext.specs.Uses.{Argument, Use, Shown, shown, argument_of, uses_in, uses_in_bound, list_faults, argument_faults, unless_new, variable_name, option_list, first_use_of}
+use Rattle.mp_theorytext.specs.Uses.{Argument, Use, ShownUses, uses_shown, argument_of, uses_in, uses_in_bound, list_faults, argument_faults, unless_new, variable_name, option_list, first_use_of}
 use Rattle.mp_theorytext.specs.Statics.{node_faults, bound_node_faults}
 use Rattle.mp_schematext.proofs.RawInduction.{OfEachBody, OfEachArg, each_raw, each_args}
 use Rattle.mp_theorytext.proofs.RawLayers.{pattern_of-Var, pattern_of-Op, pattern_of-Meta, bound_of-is}
@@ -236,11 +236,11 @@ body_uses (k ∷ ks) ih known final env d short h =
     (body_uses ks ih.1 known final env d short both.1)
 
 argument_uses : (xs : List RawPattern) → OfEachArg HasUses xs → (known : List Sym) (final : Bool) (env : List Sym) (d : ℕ) → length env ≤ 192 + 8 * d → each_faults (map node_faults xs) env d ≡ []
-    → AllAgree known final (flat_map (λ (a : Shown). a.uses known final) (map shown xs)) (flat_map occurrences_in (each_pattern_value (map pattern_of xs) env))
+    → AllAgree known final (flat_map (λ (a : ShownUses). a.uses known final) (map uses_shown xs)) (flat_map occurrences_in (each_pattern_value (map pattern_of xs) env))
 argument_uses [] ih known final env d short h = tt
 argument_uses (x ∷ xs) ih known final env d short h =
     let both = nil_parts (node_faults x env d) (each_faults (map node_faults xs) env d) h in
-    agree-append known final (uses_in x known final) (flat_map (λ (a : Shown). a.uses known final) (map shown xs)) (occurrences_in (pattern_of x env)) (flat_map occurrences_in (each_pattern_value (map pattern_of xs) env))
+    agree-append known final (uses_in x known final) (flat_map (λ (a : ShownUses). a.uses known final) (map uses_shown xs)) (occurrences_in (pattern_of x env)) (flat_map occurrences_in (each_pattern_value (map pattern_of xs) env))
     (ih.0 known final env d short both.0) (argument_uses xs ih.1 known final env d short both.1)
 
 op_uses : (n : Sym) (ps : List RawParamPat) (ks : List RawPatternBound) (l : ℕ) → OfEachBody HasUses ks → HasUses (raw.Op n ps ks l)
@@ -262,7 +262,7 @@ has_uses = each_raw HasUses var_uses op_uses meta_uses
 pub each_has_uses : (xs : List RawPattern) (known : List Sym) (final : Bool) (env : List Sym) (d : ℕ) → length env ≤ 192 + 8 * d → each_faults (map node_faults xs) env d ≡ []
     → AllAgree known final (flat_map (λ p. uses_in p known final) xs) (flat_map occurrences_in (each_pattern_value (map pattern_of xs) env))
 each_has_uses xs known final env d short h =
-    carried known final _ _ _ _ (sym (flat_map-map (λ (a : Shown). a.uses known final) shown xs)) refl (argument_uses xs (each_args HasUses var_uses op_uses meta_uses xs) known final env d short h)
+    carried known final _ _ _ _ (sym (flat_map-map (λ (a : ShownUses). a.uses known final) uses_shown xs)) refl (argument_uses xs (each_args HasUses var_uses op_uses meta_uses xs) known final env d short h)
 
 -- ## What is asked of each
 

@@ -16,7 +16,7 @@ use Rattle.mp_words.specs.Faults.{too_many}
 use Rattle.mp_words.proofs.NoFaults.{nil_parts, no_fault, not_many}
 use Rattle.mp_words.specs.declared.raw.RawName.{RawName}
 use Rattle.mp_theorytext.specs.declared.uses.First.{First}
-use Rattle.mp_theorytext.specs.Uses.{Argument, Use, list_faults, argument_faults, find_first, first_use_of, firsts_with, is_like, unless_like, use_faults, uses_faults}
+use Rattle.mp_theorytext.specs.Uses.{Argument, Use, list_faults, argument_faults, find_first, first_use_of, firsts_with, is_like_use, unless_like, use_faults, uses_faults}
 use Rattle.mp_theorytext.proofs.Agreeing.{used_of, IsFine, AreFine}
 
 -- ## The parts of the faults of uses
@@ -71,7 +71,7 @@ names_like : (ns : List Sym) → same_names ns ns ≡ true
 names_like [] = refl
 names_like (n ∷ ns) = and_from _ _ (eq_like n.0) (names_like ns)
 
-like_itself : (f : First) → is_like f f ≡ true
+like_itself : (f : First) → is_like_use f f ≡ true
 like_itself f = and_from _ _ (and_from _ _ (bool_like f.is_context) (names_like f.ctxs)) (eq_like f.arity)
 
 abbrev or_else : Option First → Option First → Option First
@@ -89,7 +89,7 @@ find-append (f ∷ fs) gs name = by (nat_eq f.name.0 name.0) (find-append fs gs 
 -- like the first use of its name, which there is
 abbrev like_first : Option First → First → Bool
 like_first None g = false
-like_first (Some f) g = is_like f g
+like_first (Some f) g = is_like_use f g
 
 abbrev all_like : List First → List First → Bool
 all_like all fs = list_all (λ (f : First). like_first (find_first all f.name) f) fs
@@ -102,9 +102,9 @@ not_not : (b : Bool) → not b ≡ false → b ≡ true
 not_not true e = refl
 not_not false e = absurd cc
 
-like_found : (o : Option First) (f : First) (u : Use) → o ≡ Some f → unless_like o u ≡ [] → is_like f (first_use_of u) ≡ true
+like_found : (o : Option First) (f : First) (u : Use) → o ≡ Some f → unless_like o u ≡ [] → is_like_use f (first_use_of u) ≡ true
 like_found None f u e h = absurd cc
-like_found (Some g) f u e h = let same : g ≡ f = cc in ap (λ x. is_like x (first_use_of u)) (sym same) ∙ not_not (is_like g (first_use_of u)) (no_fault (not (is_like g (first_use_of u))) u.left why.BadUse h)
+like_found (Some g) f u e h = let same : g ≡ f = cc in ap (λ x. is_like_use x (first_use_of u)) (sym same) ∙ not_not (is_like_use g (first_use_of u)) (no_fault (not (is_like_use g (first_use_of u))) u.left why.BadUse h)
 
 one_first : (f : First) (name : Sym) (b : Bool) → nat_eq f.name.0 name.0 ≡ b → find_first (f ∷ []) name ≡ (if b then Some f else None)
 one_first f name b e = ap (λ c. if c then Some f else None) e

@@ -28,7 +28,7 @@ use Rattle.mp_schematext.specs.declared.raw.RawPattern.{RawPattern}
 use Rattle.mp_schematext.specs.declared.raw.RawPattern as raw
 use Rattle.mp_theorytext.specs.Scopes.{level_in, syms_of}
 use Rattle.mp_theorytext.specs.Values.{Valued, in_32_bits, each_pattern_value, pattern_of, bound_of}
-use Rattle.mp_theorytext.specs.Uses.{Use, Shown, shown, argument_of, uses_in, uses_in_bound}
+use Rattle.mp_theorytext.specs.Uses.{Use, ShownUses, uses_shown, argument_of, uses_in, uses_in_bound}
 use Rattle.mp_theorytext.specs.Statics.{node_faults, bound_node_faults}
 use Rattle.mp_schematext.proofs.RawInduction.{OfEachBody, OfEachArg, each_raw, each_args}
 use Rattle.mp_theorytext.proofs.RawLayers.{pattern_of-Var, pattern_of-Op, pattern_of-Meta, bound_of-is, node_faults-Var, node_faults-Op, node_faults-Meta, bound_node_faults-is}
@@ -215,11 +215,11 @@ bodies_few (k ∷ ks) ih env d known final h u =
     and_from _ _ (ap few_of_bound (bound_of-is k env) ∙ few_of_bound-is _ ∙ and_from _ _ binders here) (bodies_few ks ih.1 env d known final both.1 uses.1)
 
 args_few : (xs : List RawPattern) → OfEachArg HasFew xs → (env : List Sym) (d : ℕ) (known : List Sym) (final : Bool) → each_faults (map node_faults xs) env d ≡ []
-    → list_all few_use (flat_map (λ (a : Shown). a.uses known final) (map shown xs)) ≡ true → all_pass (map few_of (each_pattern_value (map pattern_of xs) env)) ≡ true
+    → list_all few_use (flat_map (λ (a : ShownUses). a.uses known final) (map uses_shown xs)) ≡ true → all_pass (map few_of (each_pattern_value (map pattern_of xs) env)) ≡ true
 args_few [] ih env d known final h u = refl
 args_few (x ∷ xs) ih env d known final h u =
     let both = nil_parts (node_faults x env d) (each_faults (map node_faults xs) env d) h in
-    let uses = and_parts _ _ (sym (list_all-append few_use (uses_in x known final) (flat_map (λ (a : Shown). a.uses known final) (map shown xs))) ∙ u) in
+    let uses = and_parts _ _ (sym (list_all-append few_use (uses_in x known final) (flat_map (λ (a : ShownUses). a.uses known final) (map uses_shown xs))) ∙ u) in
     and_from _ _ (ih.0 env d known final both.0 uses.0) (args_few xs ih.1 env d known final both.1 uses.1)
 
 var_few : (n : Sym) (l : ℕ) → HasFew (raw.Var n l)
@@ -253,5 +253,5 @@ pub has_few : (p : RawPattern) → HasFew p
 has_few = each_raw HasFew var_few op_has_few meta_has_few
 
 pub each_has_few : (xs : List RawPattern) (env : List Sym) (d : ℕ) (known : List Sym) (final : Bool) → each_faults (map node_faults xs) env d ≡ []
-    → list_all few_use (flat_map (λ (a : Shown). a.uses known final) (map shown xs)) ≡ true → all_pass (map few_of (each_pattern_value (map pattern_of xs) env)) ≡ true
+    → list_all few_use (flat_map (λ (a : ShownUses). a.uses known final) (map uses_shown xs)) ≡ true → all_pass (map few_of (each_pattern_value (map pattern_of xs) env)) ≡ true
 each_has_few xs = args_few xs (each_args HasFew var_few op_has_few meta_has_few xs)

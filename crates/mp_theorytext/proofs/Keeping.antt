@@ -22,7 +22,7 @@ use Rattle.mp_schematext.specs.declared.raw.RawItem.TheVariants as item
 use Rattle.mp_schematext.specs.declared.raw.RawSchema.{RawSchema}
 use Rattle.mp_theorytext.specs.Scopes.{env_past, env_behind, contexts_past, contexts_behind}
 use Rattle.mp_theorytext.specs.Values.{each_pattern_value, pattern_of, item_of, items_of, schema_of}
-use Rattle.mp_theorytext.specs.Uses.{Use, Shown, shown, uses_in, uses_in_item, uses_in_items, uses_in_schema, first_use_of}
+use Rattle.mp_theorytext.specs.Uses.{Use, ShownUses, uses_shown, uses_in, uses_in_item, uses_in_items, uses_in_schema, first_use_of}
 use Rattle.mp_theorytext.specs.Statics.{node_faults, item_node_faults, item_faults, items_faults, item_left, twice_faults, concl_item_faults, premise_item_faults, raw_schema_size_of, schema_faults, contexts_of}
 use Rattle.mp_theorytext.proofs.InRange.{few_use, counts_few, in_range, each_in_range, has_few, each_has_few}
 use Rattle.mp_theorytext.proofs.Agreeing.{AllAgree, agrees, has_uses, each_has_uses, AreFine, fine-parts, all_new, new_apart, all_listed_from, all_apart_from, all_distinct_from, used_of, same_uses}
@@ -92,7 +92,7 @@ item_keeps known env final b (item.Ctx n cs xs l) s short h f =
     let fits = each_in_range xs env 2 (omega arith) h in
     let depth = fits.depth in
     let uses = uses_in_item (item.Ctx n cs xs l) known final in
-    let inner = flat_map-map (λ (a : Shown). a.uses known final) shown xs in
+    let inner = flat_map-map (λ (a : ShownUses). a.uses known final) uses_shown xs in
     let counts = and_parts _ _ (all_few uses f) in
     let long : length env ≤ 208 = omega (arith, short) in
     record {

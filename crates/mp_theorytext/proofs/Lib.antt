@@ -7,5 +7,6 @@ pub mod InRange
 pub mod Keeping
 pub mod RawLayers
 pub mod RulesMade
+pub mod RulesRead
 pub mod SizesAndHoles
 pub mod UseSteps

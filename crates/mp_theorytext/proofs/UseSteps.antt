@@ -25,7 +25,7 @@ use Rattle.mp_schematext.specs.declared.raw.RawSchema.{RawSchema}
 use Rattle.mp_schematext.specs.declared.raw.RawRule.{RawRule}
 use Rattle.mp_theorytext.specs.declared.uses.First.{First}
 use Rattle.mp_theorytext.specs.Scopes.{contexts_behind}
-use Rattle.mp_theorytext.specs.Uses.{Use, Shown, shown, argument_of, uses_in, uses_in_bound, uses_in_item, uses_in_items, uses_in_schema, uses_in_rule, find_first, use_faults, uses_faults, firsts_with, firsts_after}
+use Rattle.mp_theorytext.specs.Uses.{Use, ShownUses, uses_shown, argument_of, uses_in, uses_in_bound, uses_in_item, uses_in_items, uses_in_schema, uses_in_rule, find_first, use_faults, uses_faults, firsts_with, firsts_after}
 
 -- lists of other lengths aren't the same
 pub other_lengths : (xs ys : List Sym) → (length xs ≡ length ys → ⊥) → false ≡ same_names xs ys
@@ -77,12 +77,12 @@ uses_in-Op n ps ks l known final = search (rules, the_lemmas)
 
 pub uses_in-Meta : (n : Sym) (cs : List RawName) (xs : List RawPattern) (l : ℕ) (known : List Sym) (final : Bool)
     → uses_in (raw.Meta n cs xs l) known final
-    ≡ record { is_context = false; name = n; left = l; ctxs = cs; args = map argument_of xs; known = known; in_conclusion = final } ∷ flat_map (λ (a : Shown). a.uses known final) (map shown xs)
+    ≡ record { is_context = false; name = n; left = l; ctxs = cs; args = map argument_of xs; known = known; in_conclusion = final } ∷ flat_map (λ (a : ShownUses). a.uses known final) (map uses_shown xs)
 uses_in-Meta n cs xs l known final =
     let e : uses_in (raw.Meta n cs xs l) known final
-    ≡ record { is_context = false; name = n; left = l; ctxs = cs; args = map (λ (a : Shown). a.argument) (map shown xs); known = known; in_conclusion = final } ∷ flat_map (λ (a : Shown). a.uses known final) (map shown xs)
+    ≡ record { is_context = false; name = n; left = l; ctxs = cs; args = map (λ (a : ShownUses). a.argument) (map uses_shown xs); known = known; in_conclusion = final } ∷ flat_map (λ (a : ShownUses). a.uses known final) (map uses_shown xs)
     = search (rules, the_lemmas) in
-    rw (map-map (λ (a : Shown). a.argument) shown xs) at e
+    rw (map-map (λ (a : ShownUses). a.argument) uses_shown xs) at e
 
 pub uses_in_bound-is : (b : RawPatternBound) (known : List Sym) (final : Bool) → uses_in_bound b known final ≡ uses_in b.body known final
 uses_in_bound-is b known final = search (rules, the_lemmas)
@@ -131,7 +131,7 @@ module _ (t : RawPattern) (n : Sym) (cs cs' : List RawName) (xs ys zs : List Raw
   here ds vs = record { is_context = false; name = n; left = l; ctxs = ds; args = map argument_of vs; known = known; in_conclusion = final }
 
   abbrev inner : List RawPattern → List Use
-  inner vs = flat_map (λ (a : Shown). a.uses known final) (map shown vs)
+  inner vs = flat_map (λ (a : ShownUses). a.uses known final) (map uses_shown vs)
 
   whole : here cs' ys ∷ inner zs ≡ uses_in t known final
   whole = (λ i. here (c i) (y i) ∷ inner (z i)) ∙ sym (uses_in-Meta n cs xs l known final) ∙ ap (λ r. uses_in r known final) (sym is)
@@ -150,11 +150,11 @@ module _ (t : RawItem) (n : RawName) (cs cs' : List RawName) (xs ys zs : List Ra
   there ds vs = record { is_context = true; name = n.name; left = n.left; ctxs = ds; args = map argument_of vs; known = known; in_conclusion = final }
 
   abbrev behind : List RawPattern → List Use
-  behind vs = flat_map (λ (a : Shown). a.uses known final) (map shown vs)
+  behind vs = flat_map (λ (a : ShownUses). a.uses known final) (map uses_shown vs)
 
   all : there cs' ys ∷ behind zs ≡ uses_in_item t known final
   all =
-      (λ i. there (c i) (y i) ∷ behind (z i)) ∙ ap (λ us. there cs xs ∷ us) (flat_map-map (λ (a : Shown). a.uses known final) shown xs) ∙ ap (λ r. uses_in_item r known final) (sym is)
+      (λ i. there (c i) (y i) ∷ behind (z i)) ∙ ap (λ us. there cs xs ∷ us) (flat_map-map (λ (a : ShownUses). a.uses known final) uses_shown xs) ∙ ap (λ r. uses_in_item r known final) (sym is)
 
   pub context_found : mid ≡ least_from held (use_faults firsts (there cs' ys)) → now ≡ firsts_with firsts (there cs' ys) → last ≡ least_from mid (uses_faults now (behind zs)) → last ≡ least_from held (uses_faults firsts (uses_in_item t known final))
   context_found e f g =

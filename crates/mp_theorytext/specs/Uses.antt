@@ -46,49 +46,49 @@ abbrev pub Situated : Type 0 → Type 0
 Situated X = List Sym → Bool → X
 
 -- what a pattern shows: what it is as an argument, and the uses in it, in the order of the text
-pub record Shown : Type 0 where
+pub record ShownUses : Type 0 where
   pub argument : Argument
   pub uses : Situated (List Use)
 
 -- what one node shows, where what the patterns in it show is known
-abbrev pub shown_step : RawPattern-F Shown (Situated (List Use)) → Shown
-shown_step (layer.Var name left) = record { argument = record { variable = Some name; left = left }; uses = λ known final. [] }
-shown_step (layer.Op name params subs left) = record {
+abbrev pub uses_shown_step : RawPattern-F ShownUses (Situated (List Use)) → ShownUses
+uses_shown_step (layer.Var name left) = record { argument = record { variable = Some name; left = left }; uses = λ known final. [] }
+uses_shown_step (layer.Op name params subs left) = record {
   argument = record { variable = None; left = left };
   uses = λ known final. flat_map (λ us. us known final) subs;
 }
-shown_step (layer.Meta name ctxs args left) = record {
+uses_shown_step (layer.Meta name ctxs args left) = record {
   argument = record { variable = None; left = left };
   uses = λ known final. record {
     is_context = false;
     name = name;
     left = left;
     ctxs = ctxs;
-    args = map (λ (a : Shown). a.argument) args;
+    args = map (λ (a : ShownUses). a.argument) args;
     known = known;
     in_conclusion = final;
-  } ∷ flat_map (λ (a : Shown). a.uses known final) args;
+  } ∷ flat_map (λ (a : ShownUses). a.uses known final) args;
 }
 
 -- a subterm shows the uses in its body
-abbrev pub shown_bound_step : RawPatternBound-F Shown (Situated (List Use)) → Situated (List Use)
-shown_bound_step b = b.body.uses
+abbrev pub uses_shown_bound_step : RawPatternBound-F ShownUses (Situated (List Use)) → Situated (List Use)
+uses_shown_bound_step b = b.body.uses
 
 -- what a pattern shows
-abbrev pub shown : RawPattern → Shown
-shown = fold-RawPattern Shown (Situated (List Use)) shown_step shown_bound_step
+abbrev pub uses_shown : RawPattern → ShownUses
+uses_shown = fold-RawPattern ShownUses (Situated (List Use)) uses_shown_step uses_shown_bound_step
 
 -- the uses in a subterm
 abbrev pub uses_in_bound : RawPatternBound → Situated (List Use)
-uses_in_bound = fold-RawPatternBound Shown (Situated (List Use)) shown_step shown_bound_step
+uses_in_bound = fold-RawPatternBound ShownUses (Situated (List Use)) uses_shown_step uses_shown_bound_step
 
 -- what a pattern is as an argument
 abbrev pub argument_of : RawPattern → Argument
-argument_of p = (shown p).argument
+argument_of p = (uses_shown p).argument
 
 -- the uses in a pattern
 abbrev pub uses_in : RawPattern → Situated (List Use)
-uses_in p = (shown p).uses
+uses_in p = (uses_shown p).uses
 
 -- the uses in an item, after the context if it is one
 abbrev pub uses_in_item : RawItem → Situated (List Use)
@@ -154,13 +154,13 @@ find_first [] name = None
 find_first (f ∷ fs) name = if nat_eq f.name.0 name.0 then Some f else find_first fs name
 
 -- both are contexts or both are none, with the same list of contexts and as many arguments
-abbrev pub is_like : First → First → Bool
-is_like f g = same_bool f.is_context g.is_context && same_names f.ctxs g.ctxs && nat_eq f.arity g.arity
+abbrev pub is_like_use : First → First → Bool
+is_like_use f g = same_bool f.is_context g.is_context && same_names f.ctxs g.ctxs && nat_eq f.arity g.arity
 
 -- BadUse, unless the use is like the first one of its name, or there is no earlier one
 abbrev pub unless_like : Option First → Use → List Fault
 unless_like None u = []
-unless_like (Some f) u = fault_if (not (is_like f (first_use_of u))) u.left why.BadUse
+unless_like (Some f) u = fault_if (not (is_like_use f (first_use_of u))) u.left why.BadUse
 
 -- the faults of a use after these first uses of names; in the conclusion of a rule it is applied to distinct variables
 abbrev pub use_faults : List First → Use → List Fault

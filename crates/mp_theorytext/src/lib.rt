@@ -12,5 +12,5 @@ mod statics;
 mod uses;
 mod value;
 
-pub use laws::one_text;
+pub use laws::{one_text, read_rules_are_rules};
 pub use reading::read_theory;

@@ -7,7 +7,7 @@ ghost use Rattle.mp_words.specs.declared.fail.TextWhy.TheVariants as why;
 ghost use Rattle.mp_words.specs.Faults.{fault_if, least_from, too_many};
 ghost use Rattle.mp_theorytext.specs.Scopes.{syms_of};
 ghost use Rattle.mp_theorytext.specs.Places.{use_at};
-ghost use Rattle.mp_theorytext.specs.Uses.{argument_of, argument_faults, variable_name, unless_new, list_faults, find_first, first_use_of, firsts_after, firsts_with, is_like, unless_like, use_faults, uses_faults, uses_in, uses_in_bound, shown};
+ghost use Rattle.mp_theorytext.specs.Uses.{argument_of, argument_faults, variable_name, unless_new, list_faults, find_first, first_use_of, firsts_after, firsts_with, is_like_use, unless_like, use_faults, uses_faults, uses_in, uses_in_bound, uses_shown};
 
 use crate::scope::{has_name, has_raw_name};
 use crate::value::copy_names;
@@ -345,8 +345,8 @@ pub(crate) fn check_argument_uses(
     firsts: &mut Firsts,
     held: Option<Fault>,
 ) -> Result<Option<Fault>, NoMemory>
-    ensures fault { IfOk result (λ found. found ≡ least_from held (uses_faults firsts.old (flat_map (λ a. a.uses known.now in_conclusion) (map shown args.now)))) }
-    ensures firsts { OnOk result (firsts.new ≡ firsts_after firsts.old (flat_map (λ a. a.uses known.now in_conclusion) (map shown args.now))) }
+    ensures fault { IfOk result (λ found. found ≡ least_from held (uses_faults firsts.old (flat_map (λ a. a.uses known.now in_conclusion) (map uses_shown args.now)))) }
+    ensures firsts { OnOk result (firsts.new ≡ firsts_after firsts.old (flat_map (λ a. a.uses known.now in_conclusion) (map uses_shown args.now))) }
 {
     let mut held = held;
     for arg in args {

@@ -5,7 +5,7 @@ use Rattle.mp_words.specs.declared.raw.RawName.{RawName}
 use Rattle.mp_words.specs.declared.raw.RawNumber.{RawNumber}
 use Rattle.mp_words.specs.declared.word.Mark.{Mark}
 use Rattle.mp_words.specs.declared.word.Keyword.{Keyword}
-use Rattle.mp_words.specs.Parts.{IsMark, IsWord, IsName, IsCap, IsCapVar, IsNumber, IsNameAt, IsCapAt, IsNumberAt, IsNameBehind, StuckNameBehind, Lacks, Ended, StuckEnded, Led, IfThere, Both, StuckBoth, After, StuckAfter, Optional, StuckOptional, Maybe, StuckMaybe, Whole, StuckWhole, Many, StuckMany, no_more, one_more, in_one, in_others, Repeated, StuckRepeated, no_further, one_further, in_first, in_further, Separated, StuckSeparated, last, more, here, behind, after, Listed, StuckListed, HasOne, AreApart, HasOneStop, OneReading}
+use Rattle.mp_words.specs.Parts.{IsMark, IsWord, IsName, IsCap, IsCapVar, IsNumber, IsNameAt, IsCapAt, IsNumberAt, IsNameBehind, StuckNameBehind, Lacks, EndedPart, StuckEnded, Led, IfThere, Both, StuckBoth, After, StuckAfter, Optional, StuckOptional, Maybe, StuckMaybe, Whole, StuckWhole, Many, StuckMany, no_more, one_more, in_one, in_others, Repeated, StuckRepeated, no_further, one_further, in_first, in_further, Separated, StuckSeparated, last, more, here, behind, after, Listed, StuckListed, HasOne, AreApart, HasOneStop, OneReading}
 
 -- a sign leaves the same words
 abbrev pub SignHasOne : (List Word → List Word → Type 0) → Type 0
@@ -72,11 +72,11 @@ one_number_at = one_lacks IsNumberAt (one_placed IsNumber (Lacks IsNumber) one_n
 
 -- a part with its end has one reading where the part has
 module _ {X : Type 0} (A : X → List Word → List Word → Type 0) (SA S : List Word → List Word → Type 0) (a : OneReading A SA) (one : SignHasOne S) where
-  ended_has_one : HasOne (Ended A S)
+  ended_has_one : HasOne (EndedPart A S)
   ended_has_one x y ts r s h k =
       let e = a.value x y ts h.0 k.0 h.1 k.1 in (e.0, one k.0 r s (subst (λ us. S us r) e.1 h.2) k.2)
 
-  ended_apart : AreApart (Ended A S) (StuckEnded A SA S)
+  ended_apart : AreApart (EndedPart A S) (StuckEnded A SA S)
   ended_apart x ts r s (inl h) k = a.apart x ts k.0 s h k.1
   ended_apart x ts r s (inr h) k =
       let e = a.value h.0 x ts h.1 k.0 h.2 k.1 in h.3.0 r (subst (λ us. S us r) (sym e.1) k.2)
@@ -87,7 +87,7 @@ module _ {X : Type 0} (A : X → List Word → List Word → Type 0) (SA S : Lis
   ended_stop ts r s (inr h) (inl k) = absurd (a.apart h.0 ts h.1 s k h.2)
   ended_stop ts r s (inr h) (inr k) = let e = a.value h.0 k.0 ts h.1 k.1 h.2 k.2 in h.3.1 ∙ e.1 ∙ sym k.3.1
 
-  pub one_ended : OneReading (Ended A S) (StuckEnded A SA S)
+  pub one_ended : OneReading (EndedPart A S) (StuckEnded A SA S)
   one_ended = record { value = ended_has_one; apart = ended_apart; stop = ended_stop }
 
 module _ {X Y : Type 0} (A : X → List Word → List Word → Type 0) (B : Y → List Word → List Word → Type 0) (SA SB : List Word → List Word → Type 0) (a : OneReading A SA) (b : OneReading B SB) where

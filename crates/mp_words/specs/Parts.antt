@@ -11,8 +11,8 @@ use Rattle.mp_words.specs.declared.parts.ReadFail.{ReadFail}
 use Rattle.mp_words.specs.declared.parts.ReadFail.TheVariants as fail
 
 -- a part of a grammar: its value is read at the front of the words, and these are left
-abbrev pub Part : Type 0 → Type 1
-Part X = X → List Word → List Word → Type 0
+abbrev pub WordPart : Type 0 → Type 1
+WordPart X = X → List Word → List Word → Type 0
 
 -- a part without a value
 abbrev pub Sign : Type 1
@@ -27,7 +27,7 @@ abbrev pub No : Sign → List Word → Type 0
 No S ts = (us : List Word) → S ts us → ⊥
 
 -- no such part stands at the front
-abbrev pub None_of : {X : Type 0} → Part X → List Word → Type 0
+abbrev pub None_of : {X : Type 0} → WordPart X → List Word → Type 0
 None_of {X} A ts = (x : X) (us : List Word) → A x ts us → ⊥
 
 -- there are words
@@ -43,31 +43,31 @@ abbrev pub IsWord : Keyword → Sign
 IsWord k ts rest = (n : Sym) × (ts ≡ word.Small n (Some k) ∷ rest)
 
 -- a name that begins with a small letter
-abbrev pub IsName : Part Sym
+abbrev pub IsName : WordPart Sym
 IsName n ts rest = (k : Option Keyword) × (ts ≡ word.Small n k ∷ rest)
 
 -- a name that begins with a capital letter
-abbrev pub IsCap : Part Sym
+abbrev pub IsCap : WordPart Sym
 IsCap n ts rest = ts ≡ word.Cap n ∷ rest
 
 -- a second-order variable
-abbrev pub IsCapVar : Part Sym
+abbrev pub IsCapVar : WordPart Sym
 IsCapVar n ts rest = ts ≡ word.CapVar n ∷ rest
 
 -- a number
-abbrev pub IsNumber : Part ℤ
+abbrev pub IsNumber : WordPart ℤ
 IsNumber n ts rest = ts ≡ word.Num n ∷ rest
 
 -- a name that begins with a small letter, and its place
-abbrev pub IsNameAt : Part RawName
+abbrev pub IsNameAt : WordPart RawName
 IsNameAt n ts rest = IsName n.name ts rest × (n.left ≡ length ts)
 
 -- a name that begins with a capital letter, and its place
-abbrev pub IsCapAt : Part RawName
+abbrev pub IsCapAt : WordPart RawName
 IsCapAt n ts rest = IsCap n.name ts rest × (n.left ≡ length ts)
 
 -- a number, and its place
-abbrev pub IsNumberAt : Part RawNumber
+abbrev pub IsNumberAt : WordPart RawNumber
 IsNumberAt n ts rest = IsNumber n.value ts rest × (n.left ≡ length ts)
 
 -- a sign is stuck where it doesn't stand
@@ -75,19 +75,19 @@ abbrev pub LacksSign : Sign → Stop
 LacksSign S ts rest = No S ts × (rest ≡ ts)
 
 -- a part of one word is stuck where that word doesn't stand
-abbrev pub Lacks : {X : Type 0} → Part X → Stop
+abbrev pub Lacks : {X : Type 0} → WordPart X → Stop
 Lacks A ts rest = None_of A ts × (rest ≡ ts)
 
 -- first the one, then the other
-abbrev pub Both : {X Y : Type 0} → Part X → Part Y → Part (X × Y)
+abbrev pub Both : {X Y : Type 0} → WordPart X → WordPart Y → WordPart (X × Y)
 Both A B v ts rest = (us : List Word) × A v.0 ts us × B v.1 us rest
 
 -- stuck in the one, or after it in the other
-abbrev pub StuckBoth : {X : Type 0} → Part X → Stop → Stop → Stop
+abbrev pub StuckBoth : {X : Type 0} → WordPart X → Stop → Stop → Stop
 StuckBoth {X} A SA SB ts rest = SA ts rest ⊎ ((x : X) × (us : List Word) × A x ts us × SB us rest)
 
 -- first the sign, then the part
-abbrev pub After : {X : Type 0} → Sign → Part X → Part X
+abbrev pub After : {X : Type 0} → Sign → WordPart X → WordPart X
 After S A x ts rest = (us : List Word) × S ts us × A x us rest
 
 -- stuck where the sign doesn't stand, or after it in the part
@@ -95,7 +95,7 @@ abbrev pub StuckAfter : Sign → Stop → Stop
 StuckAfter S SA ts rest = LacksSign S ts rest ⊎ ((us : List Word) × S ts us × SA us rest)
 
 -- a name after this word, and its place
-abbrev pub IsNameBehind : Keyword → Part RawName
+abbrev pub IsNameBehind : Keyword → WordPart RawName
 IsNameBehind k = After (IsWord k) IsNameAt
 
 -- where a name after this word is stuck
@@ -103,7 +103,7 @@ abbrev pub StuckNameBehind : Keyword → Stop
 StuckNameBehind k = StuckAfter (IsWord k) (Lacks IsNameAt)
 
 -- the part after its sign where the sign stands, and else this value, for which nothing is read
-abbrev pub Optional : {X : Type 0} → Sign → X → Part X → Part X
+abbrev pub Optional : {X : Type 0} → Sign → X → WordPart X → WordPart X
 Optional S none A x ts rest = (No S ts × (x ≡ none) × (rest ≡ ts)) ⊎ After S A x ts rest
 
 -- stuck in the part after its sign, if that stands
@@ -111,25 +111,25 @@ abbrev pub StuckOptional : Sign → Stop → Stop
 StuckOptional S SA ts rest = (us : List Word) × S ts us × SA us rest
 
 -- first the part, then the sign
-abbrev pub Ended : {X : Type 0} → Part X → Sign → Part X
-Ended A S x ts rest = (us : List Word) × A x ts us × S us rest
+abbrev pub EndedPart : {X : Type 0} → WordPart X → Sign → WordPart X
+EndedPart A S x ts rest = (us : List Word) × A x ts us × S us rest
 
 -- stuck in the part, or after it where the sign doesn't stand
-abbrev pub StuckEnded : {X : Type 0} → Part X → Stop → Sign → Stop
+abbrev pub StuckEnded : {X : Type 0} → WordPart X → Stop → Sign → Stop
 StuckEnded {X} A SA S ts rest = SA ts rest ⊎ ((x : X) × (us : List Word) × A x ts us × LacksSign S us rest)
 
 -- the part after its sign where the sign stands, else none
-abbrev pub Led : {X : Type 0} → Sign → Part X → Part (Option X)
+abbrev pub Led : {X : Type 0} → Sign → WordPart X → WordPart (Option X)
 Led S A None ts rest = No S ts × (rest ≡ ts)
 Led S A (Some x) ts rest = After S A x ts rest
 
 -- the part where it stands, else none; this is never stuck
-abbrev pub IfThere : {X : Type 0} → Part X → Part (Option X)
+abbrev pub IfThere : {X : Type 0} → WordPart X → WordPart (Option X)
 IfThere A None ts rest = None_of A ts × (rest ≡ ts)
 IfThere A (Some x) ts rest = A x ts rest
 
 -- the part, or no words at all
-abbrev pub Maybe : {X : Type 0} → Part X → Part (Option X)
+abbrev pub Maybe : {X : Type 0} → WordPart X → WordPart (Option X)
 Maybe A None ts rest = (ts ≡ []) × (rest ≡ [])
 Maybe A (Some x) ts rest = More ts × A x ts rest
 
@@ -138,11 +138,11 @@ abbrev pub StuckMaybe : Stop → Stop
 StuckMaybe SA ts rest = More ts × SA ts rest
 
 -- the part, and nothing is left
-abbrev pub Whole : {X : Type 0} → Part X → Part X
+abbrev pub Whole : {X : Type 0} → WordPart X → WordPart X
 Whole A x ts rest = A x ts [] × (rest ≡ [])
 
 -- where a part that is all of the words is stuck: in it, or at the first word after it
-abbrev pub StuckWhole : {X : Type 0} → Part X → Stop → Stop
+abbrev pub StuckWhole : {X : Type 0} → WordPart X → Stop → Stop
 StuckWhole {X} A SA ts rest = SA ts rest ⊎ ((x : X) × A x ts rest × More rest)
 
 module _ {X : Type 0} (A : X → List Word → List Word → Type 0) where
@@ -178,11 +178,11 @@ module _ {X : Type 0} (A : X → List Word → List Word → Type 0) where
     after : (ts rest : List Word) (x : X) (us vs : List Word) → A x ts us → No E us → S us vs → StuckSeparated SA S E vs rest → StuckSeparated SA S E ts rest
 
 -- the end at once, or the part once or more with the separator between and then the end
-abbrev pub Listed : {X : Type 0} → Part X → Sign → Sign → Part (List X)
+abbrev pub Listed : {X : Type 0} → WordPart X → Sign → Sign → WordPart (List X)
 Listed A S E xs ts rest = ((xs ≡ []) × E ts rest) ⊎ (No E ts × Separated A S E xs ts rest)
 
 -- where a list that may end at once is stuck: only if it doesn't
-abbrev pub StuckListed : {X : Type 0} → Part X → Stop → Sign → Sign → Stop
+abbrev pub StuckListed : {X : Type 0} → WordPart X → Stop → Sign → Sign → Stop
 StuckListed A SA S E ts rest = No E ts × StuckSeparated A SA S E ts rest
 
 -- why a reader stopped: the place where it is stuck, counted from the end; or want of memory
@@ -191,16 +191,16 @@ Fails Stuck ts (fail.Stuck left) = (rest : List Word) × Stuck ts rest × (left 
 Fails Stuck ts fail.NoMemory = Unit {0}
 
 -- what a reader answers, seen by view
-abbrev pub Reads : {X Y : Type 0} → (X → Y × List Word) → Part Y → Stop → List Word → Result X ReadFail → Type 0
+abbrev pub Reads : {X Y : Type 0} → (X → Y × List Word) → WordPart Y → Stop → List Word → Result X ReadFail → Type 0
 Reads view Is Stuck ts (Ok x) = Is (view x).0 ts (view x).1
 Reads view Is Stuck ts (Err f) = Fails Stuck ts f
 
 -- a part has one value, and leaves the same words
-abbrev pub HasOne : {X : Type 0} → Part X → Type 0
+abbrev pub HasOne : {X : Type 0} → WordPart X → Type 0
 HasOne {X} A = (x y : X) (ts r s : List Word) → A x ts r → A y ts s → (x ≡ y) × (r ≡ s)
 
 -- no words are both read and stuck
-abbrev pub AreApart : {X : Type 0} → Part X → Stop → Type 0
+abbrev pub AreApart : {X : Type 0} → WordPart X → Stop → Type 0
 AreApart {X} A SA = (x : X) (ts r s : List Word) → SA ts s → A x ts r → ⊥
 
 -- a reading is stuck at one place only

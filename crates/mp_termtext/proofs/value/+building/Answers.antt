@@ -61,10 +61,11 @@ build_term-loop-sub-preserved t c =
       built = values_next c.args.free ks i c.sub-item.result c.in_ok-bound-in-Op.bound c.loop-sub.built c.push.new.self _ env c.loop-sub.env.items c.loop-sub-test.true c.sub-item.is c.loop-sub.invariant.kept c.in_ok-bound-in-Op.ensures.value c.in_default.ensures.ok c.loop-sub.invariant.built;
     }
 
-pub build_term-returns-in_ok-params-in-Op-clause-value : goal.build_term-returns-in_ok-params-in-Op-clause-value
-build_term-returns-in_ok-params-in-Op-clause-value t c =
+pub build_term-returns-in_ok-subs-in-Op-clause-value : goal.build_term-returns-in_ok-subs-in-Op-clause-value
+build_term-returns-in_ok-subs-in-Op-clause-value t c =
     let free = c.args.free in
     let env = c.args.env.now.items in
     let n = c.in-Op.name in
-    let whole : c.loop-sub.built ≡ each_subterm_value (map (bound_value_of free) c.in-Op.subs) env = grind (arith, common_steps) in
-    ap (λ vs. term.Op n vs c.loop-sub.built) c.in_ok-params-in-Op.ensures ∙ ap (λ bs. term.Op n (map (λ p. p.value) c.in-Op.params) bs) whole ∙ sym (value-Op free n c.in-Op.params c.in-Op.subs c.in-Op.left env) ∙ ap (λ r. value_of free r env) (sym c.in-Op.is)
+    let built : c.loop-sub.built ≡ each_subterm_value (map (bound_value_of free) c.in-Op.subs) env = grind (arith, common_steps) in
+    let whole = c.in_ok-subs-in-Op.ensures ∙ built in
+    ap (λ vs. term.Op n vs c.in_ok-subs-in-Op.subs) c.in_ok-params-in-Op.ensures ∙ ap (λ bs. term.Op n (map (λ p. p.value) c.in-Op.params) bs) whole ∙ sym (value-Op free n c.in-Op.params c.in-Op.subs c.in-Op.left env) ∙ ap (λ r. value_of free r env) (sym c.in-Op.is)

@@ -1,5 +1,5 @@
 use Rattle.std.proofs.Common.{refl, sym}
-use Rattle.mp_theorytext.specs.Uses.{shown, uses_in_bound}
+use Rattle.mp_theorytext.specs.Uses.{uses_shown, uses_in_bound}
 use Rattle.mp_theorytext.proofs.UseSteps.{found_next, kept_next, meta_found, meta_kept, uses_in_bound-is}
 use Rattle.mp_theorytext.proofs.uses.+using.Goals as goal
 
@@ -8,9 +8,9 @@ check_argument_uses-loop-arg-preserved t c =
     let known = c.args.known.now in
     let final = c.args.in_conclusion in
     record {
-      found = found_next (λ a. a.uses known final) shown c.args.args.now c.loop-arg.arg-index c.arg-item.result c.loop-arg-test.true c.arg-item.is c.loop-arg.firsts c.check_uses.new.firsts c.loop-arg.held c.in_ok-held.held _ _ refl
+      found = found_next (λ a. a.uses known final) uses_shown c.args.args.now c.loop-arg.arg-index c.arg-item.result c.loop-arg-test.true c.arg-item.is c.loop-arg.firsts c.check_uses.new.firsts c.loop-arg.held c.in_ok-held.held _ _ refl
           c.in_ok-held.ensures.fault c.in_ok-held.ensures.firsts c.loop-arg.invariant.found;
-      kept = kept_next (λ a. a.uses known final) shown c.args.args.now c.loop-arg.arg-index c.arg-item.result c.loop-arg-test.true c.arg-item.is c.loop-arg.firsts c.check_uses.new.firsts _ _ refl c.in_ok-held.ensures.firsts c.loop-arg.invariant.kept;
+      kept = kept_next (λ a. a.uses known final) uses_shown c.args.args.now c.loop-arg.arg-index c.arg-item.result c.loop-arg-test.true c.arg-item.is c.loop-arg.firsts c.check_uses.new.firsts _ _ refl c.in_ok-held.ensures.firsts c.loop-arg.invariant.kept;
     }
 
 pub check_bound_uses-loop-sub-preserved : goal.check_bound_uses-loop-sub-preserved

@@ -1,7 +1,7 @@
 use Rattle.std.proofs.Common.{◌≡◌, drop, map}
 use Rattle.std.specs.List.{flat_map}
 use Rattle.mp_words.specs.Faults.{least_from}
-use Rattle.mp_theorytext.specs.Uses.{shown, uses_in_bound, uses_faults, firsts_after}
+use Rattle.mp_theorytext.specs.Uses.{uses_shown, uses_in_bound, uses_faults, firsts_after}
 use Rattle.mp_theorytext.proofs.uses.+using.Given as goal
 
 abbrev pub invariant-check_bound_uses-loop-sub : goal.invariant-check_bound_uses-loop-sub
@@ -14,8 +14,8 @@ invariant-check_bound_uses-loop-sub l = record {
 
 abbrev pub invariant-check_argument_uses-loop-arg : goal.invariant-check_argument_uses-loop-arg
 invariant-check_argument_uses-loop-arg l = record {
-  found : least_from l.held (uses_faults l.firsts (flat_map (λ a. a.uses l.known l.in_conclusion) (map shown (drop l.arg-index l.args))))
-      ≡ least_from l.fn.held (uses_faults l.fn.firsts (flat_map (λ a. a.uses l.known l.in_conclusion) (map shown l.args)));
-  kept : firsts_after l.firsts (flat_map (λ a. a.uses l.known l.in_conclusion) (map shown (drop l.arg-index l.args)))
-      ≡ firsts_after l.fn.firsts (flat_map (λ a. a.uses l.known l.in_conclusion) (map shown l.args));
+  found : least_from l.held (uses_faults l.firsts (flat_map (λ a. a.uses l.known l.in_conclusion) (map uses_shown (drop l.arg-index l.args))))
+      ≡ least_from l.fn.held (uses_faults l.fn.firsts (flat_map (λ a. a.uses l.known l.in_conclusion) (map uses_shown l.args)));
+  kept : firsts_after l.firsts (flat_map (λ a. a.uses l.known l.in_conclusion) (map uses_shown (drop l.arg-index l.args)))
+      ≡ firsts_after l.fn.firsts (flat_map (λ a. a.uses l.known l.in_conclusion) (map uses_shown l.args));
 }
