@@ -1,6 +1,6 @@
 //! A sink in memory that keeps where each put ended.
-ghost use Rattle.mp_ports.specs.Causes.{PutCause};
-ghost use Rattle.mp_ports.specs.Sinks.{PutTakes};
+ghost use Rattle.mp_ports.specs.Sinks.{OutPuts};
+ghost use Rattle.mp_ports.specs.laws.Puts.{out_takes, out_cause};
 
 use mp_ports::{MemSink, PutFailed, Sink};
 
@@ -28,15 +28,14 @@ impl Recorder {
 impl Sink for Recorder {
     ghost use Rattle.std.specs.Prelude.{None};
 
+    ghost puts = { λ old new call. OutPuts old.faults new.faults call };
+
     ghost taken = { λ _. None };
 
     ghost faults = { λ s. s.faults };
 
     /// Puts the bytes into the sink. A put that can't be recorded fails.
-    fn put(&mut self, bytes: &[u8]) -> Result<(), PutFailed>
-        ensures taken { PutTakes None None bytes.now result }
-        ensures cause { PutCause self.old.faults self.new.faults result }
-    {
+    fn put(&mut self, bytes: &[u8]) -> Result<(), PutFailed> {
         let put = self.sink.put(bytes);
         let kept = self.ends.push(self.sink.taken().len());
         if put.is_ok() && kept.is_ok() {
@@ -45,4 +44,8 @@ impl Sink for Recorder {
         self.faults = self.faults.saturating_add(1);
         Err(PutFailed)
     }
+
+    ghost takes = { λ old new call is. out_takes old.faults new.faults call is };
+
+    ghost cause = { λ old new call is. out_cause old.faults new.faults call is };
 }

@@ -1,3 +1,5 @@
+pub mod Calls
 pub mod Causes
 pub mod Shelves
 pub mod Sinks
+pub mod laws

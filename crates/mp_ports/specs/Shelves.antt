@@ -1,8 +1,9 @@
 -- What a shelf tells, and what the shelf in memory and the files of the system do.
-use Rattle.std.specs.Prelude.{◌≡◌, ℕ, ◌<◌, ◌≤◌, length, List, [], ◌∷◌, ⊤, Some, None, Result, Ok, Err, Bool, true, false, if◌then◌else◌, ◌==◌}
+use Rattle.std.specs.Prelude.{◌≡◌, ℕ, IfOk, ◌<◌, ◌≤◌, length, List, [], ◌∷◌, ⊤, Some, None, Result, Ok, Err, Bool, true, false, if◌then◌else◌, ◌==◌}
 use Rattle.std.specs.declared.option.Option.{Option}
 use Rattle.std.specs.Str.{bytes_eq}
 use Rattle.std.specs.List.{list_any}
+use Rattle.mp_ports.specs.Calls.{Read}
 use Rattle.mp_ports.specs.Causes.{raised}
 use Rattle.mp_ports.specs.declared.ports.ReadErr.{ReadErr}
 use Rattle.mp_ports.specs.declared.ports.ReadErr.TheVariants.{Failed, TooLong, NoMemory}
@@ -74,3 +75,16 @@ ReadBy false old new name limit answer = FileRead old new (file_of name old.file
 -- a read of the shelf in memory: a call that is listed fails, and another reads the first file of the name
 abbrev pub ShelfRead : ShelfState → ShelfState → List ℕ → ℕ → Result (List ℕ) ReadErr → Type 0
 ShelfRead old new name limit answer = ReadBy (fails_next old) old new name limit answer
+
+-- a call of `read` on the shelf in memory: what it does, exactly; no count falls
+pub record MemReads (old new : ShelfState) (call : Read) : Type 0 where
+  pub exact : ShelfRead old new call.name call.limit call.answer
+  pub faults : old.faults ≤ new.faults
+  pub longs : old.longs ≤ new.longs
+
+-- a call of `read` on the files of the system: the counts go by the answer, of which no more is known than its length; no count falls
+pub record FileReads (old new : FileCounts) (call : Read) : Type 0 where
+  pub counts : new ≡ counts_after old call.answer
+  pub bound : IfOk call.answer (λ text. length text ≤ call.limit)
+  pub faults : old.faults ≤ new.faults
+  pub longs : old.longs ≤ new.longs

@@ -1,7 +1,8 @@
 -- What a sink takes, and what the sink in memory does. `Appends` is std's word: known bytes grow by these.
-use Rattle.std.specs.Prelude.{◌≡◌, ℕ, ◌+◌, take, length, List, [], ◌∷◌, ◌++◌, Some, None, Result, Ok, Err, Bool, true, false, if◌then◌else◌, ◌==◌, nat_le}
+use Rattle.std.specs.Prelude.{◌≡◌, ℕ, ◌≤◌, ◌+◌, take, length, List, [], ◌∷◌, ◌++◌, Some, None, Result, Ok, Err, Bool, true, false, if◌then◌else◌, ◌==◌, nat_le}
 use Rattle.std.specs.declared.option.Option.{Option}
 use Rattle.std.specs.Io.KnownBytes.{Appends}
+use Rattle.mp_ports.specs.Calls.{Put}
 use Rattle.mp_ports.specs.Causes.{raised}
 use Rattle.mp_ports.specs.declared.ports.PutFailed.{PutFailed}
 
@@ -62,3 +63,13 @@ abbrev pub SinkPut : {T : Type 0} → SinkState → SinkState → List ℕ → R
 SinkPut old new bytes answer =
     let entry = listed (raised old.calls) old.fails in
     PutBy (fits old (due entry bytes)) entry old new bytes answer
+
+-- a call of `put` on the sink in memory: what it does, exactly; its count of faults doesn't fall
+pub record MemPuts (old new : SinkState) (call : Put) : Type 0 where
+  pub exact : SinkPut old new call.bytes call.answer
+  pub faults : old.faults ≤ new.faults
+
+-- a call of `put` on standard output: the count of faults goes by the answer, and doesn't fall
+pub record OutPuts (old new : ℕ) (call : Put) : Type 0 where
+  pub counts : new ≡ faults_after old call.answer
+  pub faults : old ≤ new

@@ -1,7 +1,7 @@
 ghost use Rattle.std.specs.Prelude.{◌≡◌, ◌≤◌, ◌<◌, ℕ, List, None, length, IfOk, IfSome, OnOk};
 ghost use Rattle.std.specs.declared.option.Option.{Option};
-ghost use Rattle.mp_ports.specs.Causes.{ReadCause};
-ghost use Rattle.mp_ports.specs.Shelves.{Told, counts_after};
+ghost use Rattle.mp_ports.specs.Shelves.{FileReads};
+ghost use Rattle.mp_ports.specs.laws.Reads.{file_cause};
 
 use crate::ports::{ReadErr, Shelf};
 use mp_logic::{List as Items, Text};
@@ -87,6 +87,10 @@ fn read_file<R: Files>(rt: &R, alloc: Global, name: &[u8], limit: u64) -> Result
 }
 
 impl<R: Files> Shelf for FileShelf<'_, R> {
+    ghost use Rattle.std.specs.Prelude.{refl};
+
+    ghost reads = { λ old new call. FileReads old new call };
+
     ghost bytes = { λ s name. None };
 
     ghost faults = { λ s. s.faults };
@@ -95,12 +99,7 @@ impl<R: Files> Shelf for FileShelf<'_, R> {
 
     /// Reads the file to its end, or to byte `limit + 1`. Each Failed raises the count of faults by
     /// one, and each TooLong that of long files.
-    fn read(&mut self, alloc: Global, name: &Text, limit: u64) -> Result<Text, ReadErr>
-        ensures bound { IfOk result (λ text. length text ≤ limit) }
-        ensures told { Told None limit result }
-        ensures cause { ReadCause self.old.faults self.new.faults self.old.longs self.new.longs result }
-        ensures counts { self.new ≡ counts_after self.old result }
-    {
+    fn read(&mut self, alloc: Global, name: &Text, limit: u64) -> Result<Text, ReadErr> {
         let read = read_file(self.rt, alloc, name.as_slice(), limit);
         match read {
             Err(ReadErr::Failed) => self.faults = self.faults.saturating_add(1),
@@ -109,4 +108,12 @@ impl<R: Files> Shelf for FileShelf<'_, R> {
         }
         read
     }
+
+    ghost bound = { λ old new call is. is.bound };
+
+    ghost told = { λ old new call is. tt };
+
+    ghost cause = { λ old new call is. file_cause old new call is };
+
+    ghost kept = { λ old new call is other. refl };
 }

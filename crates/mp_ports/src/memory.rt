@@ -1,9 +1,11 @@
 ghost use Rattle.std.specs.Prelude.{◌≡◌, ◌≤◌, ◌<◌, [], ℕ, List, length, IfOk};
 ghost use Rattle.std.specs.Option.{option_copied};
 ghost use Rattle.std.specs.List.{list_any};
-ghost use Rattle.mp_ports.specs.Causes.{raised, ReadCause, PutCause};
-ghost use Rattle.mp_ports.specs.Shelves.{Told, file_of, ShelfRead};
-ghost use Rattle.mp_ports.specs.Sinks.{PutTakes, listed, SinkPut};
+ghost use Rattle.mp_ports.specs.Causes.{raised};
+ghost use Rattle.mp_ports.specs.Shelves.{file_of, MemReads};
+ghost use Rattle.mp_ports.specs.Sinks.{listed, MemPuts};
+ghost use Rattle.mp_ports.specs.laws.Reads.{mem_bound, mem_told, mem_kept, mem_cause as read_cause};
+ghost use Rattle.mp_ports.specs.laws.Puts.{mem_takes, mem_cause as put_cause};
 
 use crate::ports::{PutFailed, ReadErr, Shelf, Sink};
 use mp_logic::{List as Items, NoMemory, Text};
@@ -84,6 +86,8 @@ fn copy_within(alloc: Global, bytes: &[u8], limit: u64) -> Result<Text, ReadErr>
 }
 
 impl Shelf for MemShelf {
+    ghost reads = { λ old new call. MemReads old new call };
+
     ghost bytes = { λ s name. file_of name s.files };
 
     ghost faults = { λ s. s.faults };
@@ -92,13 +96,7 @@ impl Shelf for MemShelf {
 
     /// A listed call fails, and so does one with a name that isn't there; another gives the bytes of
     /// the first file of the name, or TooLong where there are more than `limit`.
-    fn read(&mut self, alloc: Global, name: &Text, limit: u64) -> Result<Text, ReadErr>
-        ensures bound { IfOk result (λ text. length text ≤ limit) }
-        ensures told { Told (file_of name.now self.old.files) limit result }
-        ensures cause { ReadCause self.old.faults self.new.faults self.old.longs self.new.longs result }
-        ensures kept { (other : List ℕ) → file_of other self.new.files ≡ file_of other self.old.files }
-        ensures exact { ShelfRead self.old self.new name.now limit result }
-    {
+    fn read(&mut self, alloc: Global, name: &Text, limit: u64) -> Result<Text, ReadErr> {
         self.calls = self.calls.saturating_add(1);
         if self.fails.as_slice().contains(&self.calls) {
             return Err(self.fail());
@@ -112,6 +110,14 @@ impl Shelf for MemShelf {
         }
         copied
     }
+
+    ghost bound = { λ old new call is. mem_bound old new call is };
+
+    ghost told = { λ old new call is. mem_told old new call is };
+
+    ghost cause = { λ old new call is. read_cause old new call is };
+
+    ghost kept = { λ old new call is. mem_kept old new call is };
 }
 
 /// Bytes in memory, with a room that is never exceeded, where calls can be made to fail. Its counts
@@ -186,17 +192,15 @@ fn listed_at(entries: &[(u64, u64)], call: u64) -> Option<u64>
 impl Sink for MemSink {
     ghost use Rattle.std.specs.Prelude.{Some};
 
+    ghost puts = { λ old new call. MemPuts old new call };
+
     ghost taken = { λ s. Some s.taken };
 
     ghost faults = { λ s. s.faults };
 
     /// Takes all of the bytes, or the number listed for this call; none where these don't fit into
     /// the room. It takes no memory.
-    fn put(&mut self, bytes: &[u8]) -> Result<(), PutFailed>
-        ensures taken { PutTakes (Some self.old.taken) (Some self.new.taken) bytes.now result }
-        ensures cause { PutCause self.old.faults self.new.faults result }
-        ensures exact { SinkPut self.old self.new bytes.now result }
-    {
+    fn put(&mut self, bytes: &[u8]) -> Result<(), PutFailed> {
         self.calls = self.calls.saturating_add(1);
         let entry = listed_at(self.fails.as_slice(), self.calls);
         let due = match entry {
@@ -216,4 +220,8 @@ impl Sink for MemSink {
         }
         Ok(())
     }
+
+    ghost takes = { λ old new call is. mem_takes old new call is };
+
+    ghost cause = { λ old new call is. put_cause old new call is };
 }

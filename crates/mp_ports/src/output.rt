@@ -1,7 +1,7 @@
 ghost use Rattle.std.specs.Prelude.{◌≡◌, ◌≤◌, ℕ, List, None};
 ghost use Rattle.std.specs.declared.option.Option.{Option};
-ghost use Rattle.mp_ports.specs.Causes.{PutCause};
-ghost use Rattle.mp_ports.specs.Sinks.{PutTakes, faults_after};
+ghost use Rattle.mp_ports.specs.Sinks.{PutTakes, OutPuts};
+ghost use Rattle.mp_ports.specs.laws.Puts.{out_takes, out_cause};
 
 use crate::ports::{PutFailed, Sink};
 use std::io;
@@ -51,20 +51,22 @@ fn write_whole<W: Write>(writer: &mut W, bytes: &[u8]) -> Result<(), PutFailed>
 }
 
 impl<R: Print> Sink for StdSink<'_, R> {
+    ghost puts = { λ old new call. OutPuts old new call };
+
     ghost taken = { λ s. None };
 
     ghost faults = { λ s. s };
 
     /// Writes all of the bytes, and flushes them. Each PutFailed raises the count of faults by one.
-    fn put(&mut self, bytes: &[u8]) -> Result<(), PutFailed>
-        ensures taken { PutTakes None None bytes.now result }
-        ensures cause { PutCause self.old self.new result }
-        ensures counts { self.new ≡ faults_after self.old result }
-    {
+    fn put(&mut self, bytes: &[u8]) -> Result<(), PutFailed> {
         let written = write_whole(&mut io::writer(self.rt), bytes);
         if written.is_err() {
             self.faults = self.faults.saturating_add(1);
         }
         written
     }
+
+    ghost takes = { λ old new call is. out_takes old new call is };
+
+    ghost cause = { λ old new call is. out_cause old new call is };
 }

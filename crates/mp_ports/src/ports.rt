@@ -1,5 +1,6 @@
 ghost use Rattle.std.specs.Prelude.{◌≡◌, ◌≤◌, ℕ, List, length, IfOk};
 ghost use Rattle.std.specs.declared.option.Option.{Option};
+ghost use Rattle.mp_ports.specs.Calls.{Read, Put};
 ghost use Rattle.mp_ports.specs.Causes.{ReadCause, PutCause};
 ghost use Rattle.mp_ports.specs.Shelves.{Told};
 ghost use Rattle.mp_ports.specs.Sinks.{PutTakes};
@@ -27,8 +28,11 @@ pub enum ReadErr {
 #[error("the bytes could not be written")]
 pub struct PutFailed;
 
-/// Files by name.
+/// Files by name. Each call is a step of a relation, and what is known of bytes and counts follows from that relation.
 pub trait Shelf {
+    /// This call, with its answer, takes the one state to the other.
+    ghost reads: { Self → Self → Read → Type 0 };
+
     /// The bytes that it holds under a name, where it tells them.
     ghost bytes: { Self → List ℕ → Option (List ℕ) };
 
@@ -44,14 +48,26 @@ pub trait Shelf {
     /// TooLong comes only where the count of long files rose; of a file whose bytes are told it
     /// comes, among the answers that are not Failed, exactly where there are more than `limit`.
     fn read(&mut self, alloc: Global, name: &Text, limit: u64) -> Result<Text, ReadErr>
-        ensures bound { IfOk result (λ text. length text ≤ limit) }
-        ensures told { Told (bytes self.old name.now) limit result }
-        ensures cause { ReadCause (faults self.old) (faults self.new) (longs self.old) (longs self.new) result }
-        ensures kept { (other : List ℕ) → bytes self.new other ≡ bytes self.old other };
+        ensures { reads self.old self.new (record { name = name.now; limit = limit; answer = result }) };
+
+    /// No more bytes than the limit are given.
+    ghost bound: { (old new : Self) (call : Read) → reads old new call → IfOk call.answer (λ text. length text ≤ call.limit) };
+
+    /// Of a file whose bytes are told these are given, or it is too long.
+    ghost told: { (old new : Self) (call : Read) → reads old new call → Told (bytes old call.name) call.limit call.answer };
+
+    /// A fault is counted at Failed, and a long file at TooLong.
+    ghost cause: { (old new : Self) (call : Read) → reads old new call → ReadCause (faults old) (faults new) (longs old) (longs new) call.answer };
+
+    /// What it holds stays.
+    ghost kept: { (old new : Self) (call : Read) → reads old new call → (other : List ℕ) → bytes new other ≡ bytes old other };
 }
 
-/// Where bytes go.
+/// Where bytes go. Each call is a step of a relation, and what is known of bytes and counts follows from that relation.
 pub trait Sink {
+    /// This call, with its answer, takes the one state to the other.
+    ghost puts: { Self → Self → Put → Type 0 };
+
     /// The bytes that it has taken, where it tells them.
     ghost taken: { Self → Option (List ℕ) };
 
@@ -62,6 +78,11 @@ pub trait Sink {
     ///
     /// PutFailed comes only where the count of faults rose in this call, and Ok never raises it.
     fn put(&mut self, bytes: &[u8]) -> Result<(), PutFailed>
-        ensures taken { PutTakes (taken self.old) (taken self.new) bytes.now result }
-        ensures cause { PutCause (faults self.old) (faults self.new) result };
+        ensures { puts self.old self.new (record { bytes = bytes.now; answer = result }) };
+
+    /// All bytes were taken, or the first of them.
+    ghost takes: { (old new : Self) (call : Put) → puts old new call → PutTakes (taken old) (taken new) call.bytes call.answer };
+
+    /// A fault is counted where the call failed.
+    ghost cause: { (old new : Self) (call : Put) → puts old new call → PutCause (faults old) (faults new) call.answer };
 }

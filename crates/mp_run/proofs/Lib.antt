@@ -1,9 +1,14 @@
-pub mod Files
+pub mod Chains
+pub mod Courses
+pub mod FilesRead
 pub mod FirstEntry
-pub mod GoalBlocks
-pub mod FileOrder
-pub mod PutBlocks
+pub mod GoalPieces
+pub mod OneAnswer
+pub mod PartsLoaded
+pub mod Proving
+pub mod PutPieces
 pub mod SameWorks
+pub mod SessionLaws
 pub mod SomeAnswer
 pub mod Total
 pub mod TotalParts
@@ -11,6 +16,5 @@ pub mod TotalPatterns
 pub mod TotalSchedules
 pub mod TotalScripts
 pub mod TotalTerms
-pub mod Uniqueness
 pub mod Words
-pub mod Writes
+pub mod Written

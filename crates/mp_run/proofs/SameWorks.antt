@@ -4,8 +4,8 @@ use Rattle.std.proofs.lemmas.Bool.{cases_eq}
 use Rattle.mp_term.specs.declared.term.Term.{Term}
 use Rattle.mp_term.specs.declared.sequent.Sequent.{Sequent}
 use Rattle.mp_strategy.specs.declared.work.Work.{Work}
-use Rattle.mp_match.specs.Equality.{same_term}
-use Rattle.mp_match.proofs.Equal.{term-same, term-refl}
+use Rattle.mp_term.specs.Equality.{same_term}
+use Rattle.mp_term.proofs.EqualTerms.{term-same, term-refl}
 
 abbrev Decision : {A : Type 0} → A → A → Type 0
 Decision a b = (a ≡ b) ⊎ ((a ≡ b) → ⊥)

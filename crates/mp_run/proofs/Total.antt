@@ -8,26 +8,26 @@ use Rattle.mp_words.specs.declared.word.Keyword.{Keyword}
 use Rattle.mp_words.specs.declared.word.Keyword.TheVariants as keyword
 use Rattle.mp_words.specs.declared.word.Word.{Word}
 use Rattle.mp_words.specs.declared.word.Word.TheVariants as word
-use Rattle.mp_words.specs.Parts.{Part, Sign, Stop, No, None_of, IsMark, IsWord, IsName, IsCap, IsCapVar, IsNumber, IsNameAt, IsCapAt, IsNumberAt, Lacks}
+use Rattle.mp_words.specs.Parts.{WordPart, Sign, Stop, No, None_of, IsMark, IsWord, IsName, IsCap, IsCapVar, IsNumber, IsNameAt, IsCapAt, IsNumberAt, Lacks}
 
 -- at these words the sign stands, or it doesn't
 abbrev pub Stands : Sign → List Word → Type 0
 Stands S ts = ((us : List Word) × S ts us × (1 + length us ≤ length ts)) ⊎ No S ts
 
 -- at these words a part of one word stands, or none does
-abbrev pub Found : {X : Type 0} → Part X → List Word → Type 0
+abbrev pub Found : {X : Type 0} → WordPart X → List Word → Type 0
 Found {X} A ts = ((x : X) × (us : List Word) × A x ts us × (1 + length us ≤ length ts)) ⊎ None_of A ts
 
 -- at these words the part is read, and is so many words at least; or it is stuck
-abbrev pub Decides : {X : Type 0} → ℕ → Part X → Stop → List Word → Type 0
+abbrev pub Decides : {X : Type 0} → ℕ → WordPart X → Stop → List Word → Type 0
 Decides {X} d A SA ts = ((x : X) × (us : List Word) × A x ts us × (d + length us ≤ length ts)) ⊎ ((us : List Word) × SA ts us)
 
 -- and so at all words
-abbrev pub Total : {X : Type 0} → ℕ → Part X → Stop → Type 0
+abbrev pub Total : {X : Type 0} → ℕ → WordPart X → Stop → Type 0
 Total d A SA = (ts : List Word) → Decides d A SA ts
 
 -- the words of a text are read to their end, or a reading of them is stuck
-abbrev pub SomeReading : {X : Type 0} → Part X → Stop → Type 0
+abbrev pub SomeReading : {X : Type 0} → WordPart X → Stop → Type 0
 SomeReading {X} A SA = (ts : List Word) → ((x : X) × A x ts []) ⊎ ((us : List Word) × SA ts us)
 
 -- what holds of words where it holds of all that are fewer holds of all words

@@ -2,7 +2,7 @@
 use Rattle.std.proofs.Common.{◌≡◌, ◌⊎◌, inl, inr, ℕ, ◌+◌, ◌<◌, ◌≤◌, Bool, true, false, List, [], ◌∷◌, length, None, Some, refl, arith}
 use Rattle.mp_words.specs.declared.word.Word.{Word}
 use Rattle.mp_words.specs.declared.word.Keyword.{Keyword}
-use Rattle.mp_words.specs.Parts.{No, More, IsWord, IsNameAt, IsNameBehind, StuckNameBehind, Lacks, Both, StuckBoth, After, StuckAfter, Optional, StuckOptional, Ended, StuckEnded, Led, IfThere, Many, StuckMany, no_more, one_more, in_one, in_others, Repeated, StuckRepeated, no_further, one_further, in_first, in_further, Separated, StuckSeparated, last, more, here, behind, after, Listed, StuckListed}
+use Rattle.mp_words.specs.Parts.{No, More, IsWord, IsNameAt, IsNameBehind, StuckNameBehind, Lacks, Both, StuckBoth, After, StuckAfter, Optional, StuckOptional, EndedPart, StuckEnded, Led, IfThere, Many, StuckMany, no_more, one_more, in_one, in_others, Repeated, StuckRepeated, no_further, one_further, in_first, in_further, Separated, StuckSeparated, last, more, here, behind, after, Listed, StuckListed}
 use Rattle.mp_run.proofs.Total.{Stands, Found, Decides, Total, SomeReading, by_length, word_stands, total_name_at}
 
 -- what has a word at least is read or stuck
@@ -60,11 +60,11 @@ pub total_name_behind : (k : Keyword) → Total 1 (IsNameBehind k) (StuckNameBeh
 total_name_behind k ts = after_at (IsWord k) IsNameAt (Lacks IsNameAt) ts (word_stands k ts) (λ us s. of_any_length IsNameAt (Lacks IsNameAt) us (total_name_at us))
 
 module _ {X : Type 0} (A : X → List Word → List Word → Type 0) (SA S : List Word → List Word → Type 0) (d : ℕ) (ts : List Word) where
-  then_end : (x : X) (us : List Word) → A x ts us → d + length us ≤ length ts → Stands S us → Decides d (Ended A S) (StuckEnded A SA S) ts
+  then_end : (x : X) (us : List Word) → A x ts us → d + length us ≤ length ts → Stands S us → Decides d (EndedPart A S) (StuckEnded A SA S) ts
   then_end x us a s (inl k) = inl (x, k.0, (us, a, k.1), omega (arith, s, k.2))
   then_end x us a s (inr n) = inr (us, inr (x, us, a, (n, refl)))
 
-  pub ended_at : Decides d A SA ts → ((us : List Word) → Stands S us) → Decides d (Ended A S) (StuckEnded A SA S) ts
+  pub ended_at : Decides d A SA ts → ((us : List Word) → Stands S us) → Decides d (EndedPart A S) (StuckEnded A SA S) ts
   ended_at (inl a) ends = then_end a.0 a.1 a.2 a.3 (ends a.1)
   ended_at (inr a) ends = inr (a.0, inl a.1)
 

@@ -13,9 +13,9 @@ use Rattle.mp_schematext.specs.declared.raw.RawPattern.{RawPattern, Var, Op, Met
 use Rattle.mp_schematext.specs.declared.raw.RawItem.TheVariants as item
 use Rattle.mp_schematext.specs.declared.raw.RawItem.{RawItem}
 use Rattle.mp_schematext.specs.declared.raw.RawSchema.{RawSchema}
-use Rattle.mp_words.specs.Parts.{No, None_of, Lacks, IsMark, IsWord, IsName, IsNameBehind, StuckNameBehind, IsCapAt, IsCapVar, Ended, StuckEnded, Both, StuckBoth, After, StuckAfter, Separated, StuckSeparated}
+use Rattle.mp_words.specs.Parts.{No, None_of, Lacks, IsMark, IsWord, IsName, IsNameBehind, StuckNameBehind, IsCapAt, IsCapVar, EndedPart, StuckEnded, Both, StuckBoth, After, StuckAfter, Separated, StuckSeparated}
 use Rattle.mp_termtext.specs.Grammar.{IsVariable, IsParamWord, AreBinders, StuckBinders}
-use Rattle.mp_schematext.specs.Grammar.{IsParamPatWord, IsParamPat, StuckParamPat, AreParamPats, StuckParamPats, AreContexts, StuckContexts, IsPattern, AreArguments, AreArgs, ArePatternSubs, ArePatternBounds, IsPatternBound, StuckPattern, StuckArguments, StuckArgs, StuckPatternSubs, StuckPatternBounds, StuckPatternBound, variable, second_order, operator, no_arguments, some_arguments, last_arg, more_args, no_subs, some_subs, last_bound, more_bounds, bound, no_pattern, in_contexts, in_arguments, in_params, in_subs, in_brackets, in_arg, behind_arg, in_other_args, in_braces, in_bound, behind_bound, in_other_bounds, in_binders, in_body, IsContext, StuckContext, IsHypothesis, StuckHypothesis, IsItem, StuckItem, AreItems, StuckItems, IsSchema, StuckSchema, ArePremises, StuckPremises, IsRule, StuckRule, IsTheory, StuckTheory}
+use Rattle.mp_schematext.specs.Grammar.{IsParamPatWord, IsParamPat, StuckParamPat, AreParamPats, StuckParamPats, AreContexts, StuckContexts, IsPattern, AreArguments, AreArgs, ArePatternSubs, ArePatternBounds, IsPatternBound, StuckPattern, StuckArguments, StuckArgs, StuckPatternSubs, StuckPatternBounds, StuckPatternBound, variable, second_order, operator, no_arguments, some_arguments, last_arg, more_args, no_subs, some_subs, last_bound, more_bounds, bound, no_pattern, in_contexts, in_arguments, in_params, in_subs, in_brackets, in_arg, behind_arg, in_other_args, in_braces, in_bound, behind_bound, in_other_bounds, in_binders, in_body, IsContext, StuckContext, IsHypothesis, StuckHypothesis, IsItem, StuckItem, AreItems, StuckItems, IsSchema, StuckSchema, ArePremises, StuckPremises, IsRawRule, StuckRule, IsTheory, StuckTheory}
 use Rattle.mp_run.proofs.Total.{Stands, Found, Decides, Total, SomeReading, by_length, mark_stands, word_stands, name_found, cap_var_found, total_name, total_cap_at}
 use Rattle.mp_run.proofs.TotalParts.{of_any_length, read_as, both_at, after_at, optional_at, ended_at, some_many, total_name_behind, total_separated, total_listed}
 use Rattle.mp_run.proofs.TotalTerms.{variable_found, param_word_found, total_binders}
@@ -169,14 +169,14 @@ pattern_there ts = of_any_length IsPattern StuckPattern ts (total_pattern ts)
 -- ## Items
 
 abbrev Behind : List RawName × List RawPattern → List Word → List Word → Type 0
-Behind = Both AreContexts (Ended AreArguments (IsMark mark.Greater))
+Behind = Both AreContexts (EndedPart AreArguments (IsMark mark.Greater))
 
 abbrev StuckBehind : List Word → List Word → Type 0
 StuckBehind = StuckBoth AreContexts StuckContexts (StuckEnded AreArguments StuckArguments (IsMark mark.Greater))
 
 total_behind : Total 0 Behind StuckBehind
 total_behind ts =
-    both_at AreContexts (Ended AreArguments (IsMark mark.Greater)) StuckContexts (StuckEnded AreArguments StuckArguments (IsMark mark.Greater)) 0 ts (total_contexts ts)
+    both_at AreContexts (EndedPart AreArguments (IsMark mark.Greater)) StuckContexts (StuckEnded AreArguments StuckArguments (IsMark mark.Greater)) 0 ts (total_contexts ts)
     (λ us s. ended_at AreArguments StuckArguments (IsMark mark.Greater) 0 us (total_arguments us) (mark_stands mark.Greater))
 
 total_context : Total 1 IsContext StuckContext
@@ -228,12 +228,12 @@ total_schemas ts = both_at ArePremises IsSchema StuckPremises StuckSchema 1 ts (
 abbrev RuleParts : RawName × (List RawSchema × RawSchema) → List Word → List Word → Type 0
 RuleParts = Both (IsNameBehind keyword.Rule) (After (IsMark mark.Colon) Schemas)
 
-total_rule : Total 1 IsRule StuckRule
+total_rule : Total 1 IsRawRule StuckRule
 total_rule ts =
-    read_as RuleParts IsRule StuckRule StuckRule 1 ts (λ x. record { name = x.0; premises = x.1.0; concl = x.1.1 }) (λ x us h. h) (λ us h. h)
+    read_as RuleParts IsRawRule StuckRule StuckRule 1 ts (λ x. record { name = x.0; premises = x.1.0; concl = x.1.1 }) (λ x us h. h) (λ us h. h)
     (both_at (IsNameBehind keyword.Rule) (After (IsMark mark.Colon) Schemas) (StuckNameBehind keyword.Rule) (StuckAfter (IsMark mark.Colon) StuckSchemas) 1 ts (total_name_behind keyword.Rule ts)
     (λ us s. of_any_length (After (IsMark mark.Colon) Schemas) (StuckAfter (IsMark mark.Colon) StuckSchemas) us
     (after_at (IsMark mark.Colon) Schemas StuckSchemas us (mark_stands mark.Colon us) (λ vs t. of_any_length Schemas StuckSchemas vs (total_schemas vs)))))
 
 pub some_theory : SomeReading IsTheory StuckTheory
-some_theory ts = some_many IsRule StuckRule total_rule ts
+some_theory ts = some_many IsRawRule StuckRule total_rule ts

@@ -11,8 +11,8 @@ use Rattle.mp_words.specs.Parts.{IsWord, IsNumberAt, IsNameBehind, StuckNameBehi
 use Rattle.mp_drill.specs.declared.raw.RawEvent.{RawEvent}
 use Rattle.mp_drill.specs.declared.raw.RawEvent.TheVariants as event
 use Rattle.mp_drill.specs.ScheduleGrammar.{has_worker, begins_event, IsEvent, StuckEvent, IsSection, StuckSection, IsSchedule, StuckSchedule}
-use Rattle.mp_run.proofs.Total.{Decides, Total, SomeReading, fewer, word_stands, number_at_found, total_number_at}
-use Rattle.mp_run.proofs.TotalParts.{of_any_length, read_as, both_at, after_at, if_there_at, some_many, total_name_behind, total_repeated}
+use Rattle.mp_run.proofs.Total.{Decides, Total, SomeReading, fewer, number_at_found, total_number_at}
+use Rattle.mp_run.proofs.TotalParts.{read_as, both_at, if_there_at, some_many, total_name_behind, total_repeated}
 
 -- ## Events
 

@@ -1,36 +1,86 @@
--- What the files that a command reads are answered with.
-use Rattle.std.specs.Prelude.{◌≡◌, ℕ, ◌<◌, ◌≤◌, ◌⊎◌, Bool, List, length, Option, Some, None, Result, Ok, Err, ⊤}
-use Rattle.mp_report.specs.declared.refusal.FileKind.{FileKind}
-use Rattle.mp_report.specs.Refusals.{refusal_text}
-use Rattle.mp_run.specs.Lines.{limit_of, long_line}
-use Rattle.mp_words.specs.declared.fail.TextErr.{TextErr}
-use Rattle.mp_words.specs.declared.fail.TextFail.{TextFail}
-use Rattle.mp_words.specs.declared.fail.TextFail.TheVariants.{Bad}
+-- What a command answers over files whose bytes are told, and what a session writes and counts.
+use Rattle.std.specs.Prelude.{◌≡◌, ℕ, ◌<◌, ◌≤◌, ◌⊎◌, List, [], ◌∷◌, ◌++◌, map, length, Option, Some, None, IsSome, Result, Ok, Err, ⊤}
+use Rattle.mp_logic.specs.Lists.{joined}
+use Rattle.mp_ports.specs.Calls.{Read}
+use Rattle.mp_ports.specs.Causes.{Rose}
+use Rattle.mp_ports.specs.declared.ports.ReadErr.{ReadErr}
+use Rattle.mp_ports.specs.declared.ports.ReadErr.TheVariants as err
+use Rattle.mp_run.specs.declared.piece.Piece.{Piece}
+use Rattle.mp_run.specs.declared.status.Status.{Status}
+use Rattle.mp_run.specs.declared.status.Status.TheVariants as status
+use Rattle.mp_run.specs.declared.stop.Stop.{Stop}
+use Rattle.mp_run.specs.declared.stop.Stop.TheVariants as stop
+use Rattle.mp_run.specs.Commands.{From, Named, Made, Source, Task, Command, usage_line}
+use Rattle.mp_run.specs.Lines.{fault_line}
+use Rattle.mp_run.specs.Loads.{Said, loads}
+use Rattle.mp_run.specs.Sessions.{Says, status_of}
 
--- the block of each goal, and whether all are closed; or the line that tells why a file was refused
-pub data Answer : Type 0 where
-  Blocks : (blocks : List (List ℕ)) (closed : Bool) → Answer
-  Refusal : (line : List ℕ) → Answer
+-- the answer to a read is the one of a file with these bytes: they are at most the limit, or it is too long; nothing is said of a
+-- file that isn't told
+abbrev pub IsFrom : Option (List ℕ) → ℕ → Result (List ℕ) ReadErr → Type 0
+IsFrom None limit answer = ⊤
+IsFrom (Some bytes) limit (Ok text) = (text ≡ bytes) × (length bytes ≤ limit)
+IsFrom (Some bytes) limit (Err err.TooLong) = limit < length bytes
+IsFrom (Some bytes) limit (Err other) = ⊥
 
--- the names that are known, in order of entry
-abbrev pub Names : Type 0
-Names = List (List ℕ)
+module _ (files : List ℕ → Option (List ℕ)) where
+  -- each read is answered from these files
+  abbrev pub AllFrom : List Read → Type 0
+  AllFrom [] = ⊤
+  AllFrom (r ∷ rs) = IsFrom (files r.name) r.limit r.answer × AllFrom rs
 
--- what may be read from bytes, and the names that are known then
-abbrev pub Reading : Type 0 → Type 1
-Reading V = List ℕ → Result V TextFail → Names → Type 0
+  -- the bytes of a text are told
+  abbrev pub IsTold : From → Type 0
+  IsTold (Named name) = IsSome (files name)
+  IsTold (Made text) = ⊤
 
--- what a file of these bytes says: a value, with the names that are known then; or the line of its refusal, which
--- tells that it is over the limit, or the one fault of its text
-abbrev pub Says : {V : Type 0} → FileKind → Reading V → List ℕ → Result (V × Names) (List ℕ) → Type 0
-Says kind reads bytes (Ok said) = (length bytes ≤ limit_of) × reads bytes (Ok said.0) said.1
-Says kind reads bytes (Err line) =
-    ((limit_of < length bytes) × (line ≡ long_line kind))
-    ⊎ ((length bytes ≤ limit_of) × ((e : TextErr) × (names : Names) × reads bytes (Err (Bad e)) names × (line ≡ refusal_text kind e)))
+  -- the bytes of what is read after the script are told, if anything is
+  abbrev pub ThirdIsTold : Option Source → Type 0
+  ThirdIsTold None = ⊤
+  ThirdIsTold (Some source) = IsTold source.from
 
--- a file that is refused is the answer; else the rest of the files is asked. Nothing is known if its bytes aren't told.
-abbrev pub FileThen : {V : Type 0} → FileKind → Option (List ℕ) → Reading V → (V → Names → Answer → Type 0) → Answer → Type 0
-FileThen kind None reads next answer = ⊤
-FileThen {V} kind (Some bytes) reads next answer =
-    ((line : List ℕ) × Says kind reads bytes (Err line) × (answer ≡ Refusal line))
-    ⊎ ((value : V) × (names : Names) × Says kind reads bytes (Ok (value, names)) × next value names answer)
+  -- the bytes of each text of the command are told
+  abbrev pub AreTold : Command → Type 0
+  AreTold c = IsTold c.theory × IsTold c.script × ThirdIsTold c.third
+
+-- the whole of what a run puts, under its status: each piece; or the line that tells why it ended before its goals
+abbrev pub Whole : Task → Result Said Stop → Status → List ℕ → Type 0
+Whole task (Ok said) s text = (ps : List Piece) × Says task said ps × (s ≡ status_of ps) × (text ≡ joined (map (λ p. p.text) ps))
+Whole task (Err (stop.Refused line)) s text = (s ≡ status.Refused) × (text ≡ line)
+Whole task (Err (stop.Fault file)) s text = (s ≡ status.ReadFault) × (text ≡ fault_line file)
+Whole task (Err stop.NoMemory) s text = ⊥
+
+-- what a command answers over these files: a status, and a text
+abbrev pub Answers : (List ℕ → Option (List ℕ)) → Command → Status → List ℕ → Type 0
+Answers files c s text = (calls : List Read) × AllFrom files calls × (out : Result Said Stop) × loads c calls out × Whole c.task out s text
+
+-- the run broke off: a put failed, or memory ran out
+abbrev pub BreaksOff : Status → Type 0
+BreaksOff s = (s ≡ status.WriteFault) ⊎ (s ≡ status.NoMemory)
+
+-- the text is written whole, under its status; or its first bytes are, if the run broke off; or nothing, for want of memory
+abbrev pub WritesOf : (Status → List ℕ → Type 0) → Status → List ℕ → Type 0
+WritesOf IsWhole s text =
+    IsWhole s text
+    ⊎ ((BreaksOff s × ((end : Status) × (rest : List ℕ) × IsWhole end (text ++ rest)))
+    ⊎ ((s ≡ status.NoMemory) × (text ≡ [])))
+
+-- the usage line, whole
+abbrev pub WholeUsage : Status → List ℕ → Type 0
+WholeUsage s text = (s ≡ status.Usage) × (text ≡ usage_line)
+
+-- what a session writes, by what it read: if the words are no command, the usage line; else what the texts make
+abbrev pub Writes : Option Command → List Read → Status → List ℕ → Type 0
+Writes None calls s text = WritesOf WholeUsage s text
+Writes (Some c) calls s text = (out : Result Said Stop) × loads c calls out × WritesOf (Whole c.task out) s text
+
+-- a fault comes only if its count rose; another status, memory aside, only if none did
+abbrev pub RunCause : Status → (reads_before reads_now writes_before writes_now : ℕ) → Type 0
+RunCause status.ReadFault r r' w w' = Rose r r' × (w' ≡ w)
+RunCause status.WriteFault r r' w w' = Rose w w'
+RunCause status.NoMemory r r' w w' = ⊤
+RunCause other r r' w w' = (r' ≡ r) × (w' ≡ w)
+
+-- what a shelf holds stays
+abbrev pub Keeps : (before now : List ℕ → Option (List ℕ)) → Type 0
+Keeps before now = (name : List ℕ) → now name ≡ before name

@@ -1,21 +1,50 @@
--- The words of the commands.
+-- The words of the commands, and what each command reads.
 use Rattle.std.specs.Prelude.{ℕ, List, [], ◌∷◌, Some, None, ◌&&◌, codes, if◌then◌else◌}
 use Rattle.std.specs.declared.option.Option.{Option}
 use Rattle.std.specs.Str.{bytes_eq, is_utf8}
+use Rattle.mp_report.specs.declared.refusal.FileKind.{FileKind}
+use Rattle.mp_report.specs.declared.refusal.FileKind.TheVariants.{Schedule}
 
--- a command, by the words of the files that it reads: `seq` has no schedule, and `drill` has one
+-- where a text comes from: from the file of this name, or the run makes it by itself
+pub data From : Type 0 where
+  Named : (name : List ℕ) → From
+  Made : (text : List ℕ) → From
+
+-- a text that is read after the script: what it is read as, and where it comes from
+pub record Source : Type 0 where
+  pub kind : FileKind
+  pub from : From
+
+-- what a command does with what its texts say: `seq` evaluates each goal, `drill` runs each goal's schedule
+pub data Task : Type 0 where
+  Seq : Task
+  Drill : Task
+
+-- a command: its theory, its script, what it reads after them, and what it does
 pub record Command : Type 0 where
-  pub theory : List ℕ
-  pub script : List ℕ
-  pub schedule : Option (List ℕ)
+  pub theory : From
+  pub script : From
+  pub third : Option Source
+  pub task : Task
+
+-- `seq`
+abbrev pub seq_command : (theory script : List ℕ) → Command
+seq_command theory script = record { theory = Named theory; script = Named script; third = None; task = Seq }
+
+-- the file of a schedule
+abbrev pub schedule_source : List ℕ → Source
+schedule_source schedule = record { kind = Schedule; from = Named schedule }
+
+-- `drill`
+abbrev pub drill_command : (theory script schedule : List ℕ) → Command
+drill_command theory script schedule = record { theory = Named theory; script = Named script; third = Some (schedule_source schedule); task = Drill }
 
 -- the command that the words give: its own word, and then its files, each a word in UTF-8
 abbrev pub command_of : List (List ℕ) → Option Command
 command_of (word ∷ theory ∷ script ∷ []) =
-    if bytes_eq word (codes "seq") && is_utf8 theory && is_utf8 script then Some (record { theory = theory; script = script; schedule = None }) else None
+    if bytes_eq word (codes "seq") && is_utf8 theory && is_utf8 script then Some (seq_command theory script) else None
 command_of (word ∷ theory ∷ script ∷ schedule ∷ []) =
-    if bytes_eq word (codes "drill") && is_utf8 theory && is_utf8 script && is_utf8 schedule
-    then Some (record { theory = theory; script = script; schedule = Some schedule }) else None
+    if bytes_eq word (codes "drill") && is_utf8 theory && is_utf8 script && is_utf8 schedule then Some (drill_command theory script schedule) else None
 command_of words = None
 
 -- the line that tells the commands

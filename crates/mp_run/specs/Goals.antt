@@ -1,7 +1,7 @@
 -- What is printed of the goals of a script.
-use Rattle.std.specs.Prelude.{◌≡◌, ℕ, ◌++◌, nat_eq, Bool, false, List, [], ◌∷◌, map, Option, Some, None, IsTrue, ⊤}
-use Rattle.std.specs.List.{list_all}
+use Rattle.std.specs.Prelude.{◌≡◌, ◌≤◌, ℕ, ◌++◌, nat_eq, Bool, false, List, [], IsTrue, if◌then◌else◌}
 use Rattle.mp_logic.specs.declared.sym.Sym.{Sym}
+use Rattle.mp_logic.specs.declared.tree.Tree.{Tree}
 use Rattle.mp_logic.specs.Trees.{leaf_count_of}
 use Rattle.mp_term.specs.declared.sequent.Sequent.{Sequent}
 use Rattle.mp_theory.specs.declared.rule.Rule.{Rule}
@@ -11,22 +11,30 @@ use Rattle.mp_strategy.specs.declared.outcome.Outcome.{Outcome}
 use Rattle.mp_strategy.specs.declared.outcome.Outcome.TheVariants as outcome
 use Rattle.mp_strategy.specs.Works.{work_of}
 use Rattle.mp_strategy.specs.Evaluation.{eval}
+use Rattle.mp_strategy.specs.Laws.{tree_depth_of}
 use Rattle.mp_drill.specs.declared.schedule.Event.{Event}
 use Rattle.mp_drill.specs.declared.schedule.Reply.{Reply}
+use Rattle.mp_drill.specs.declared.schedule.Section.{Section}
 use Rattle.mp_drill.specs.Ranges.{are_in_range}
 use Rattle.mp_drill.specs.Sections.{events_of}
 use Rattle.mp_drill.specs.Trace.{IsTrace}
 use Rattle.mp_scripttext.specs.declared.script.Entry.{Entry}
-use Rattle.mp_drill.specs.declared.schedule.Section.{Section}
 use Rattle.mp_report.specs.Results.{result_text}
 use Rattle.mp_report.specs.Traces.{trace_text}
-use Rattle.mp_run.specs.declared.block.Block.{Block}
-use Rattle.mp_run.specs.Answers.{Names, Answer, Blocks}
+use Rattle.mp_run.specs.declared.piece.Piece.{Piece}
+use Rattle.mp_run.specs.declared.piece.Verdict.{Verdict}
+use Rattle.mp_run.specs.declared.piece.Verdict.TheVariants.{Closed, Open}
+use Rattle.mp_run.specs.Parts.{Names}
+use Rattle.mp_run.specs.Proofs.{Proves, IsDerivable}
 
 -- whether the outcome is a tree without open leaves
-abbrev pub is_closed : Outcome Sequent → Bool
-is_closed (outcome.Tree t) = nat_eq (leaf_count_of t) 0
-is_closed (outcome.Failure f) = false
+abbrev pub is_closed_outcome : Outcome Sequent → Bool
+is_closed_outcome (outcome.Tree t) = nat_eq (leaf_count_of t) 0
+is_closed_outcome (outcome.Failure f) = false
+
+-- the verdict on an outcome
+abbrev pub verdict_of : Outcome Sequent → Verdict
+verdict_of o = if is_closed_outcome o then Closed else Open
 
 -- the work of a goal: its whole strategy, with its fuel
 abbrev pub goal_work : Entry → Work Sequent
@@ -40,37 +48,27 @@ evaluate_in rules entry = eval (step_of_rules rules) entry.justs entry.tacs
 abbrev pub goal_outcome : List Rule → Entry → Outcome Sequent
 goal_outcome rules entry = evaluate_in rules entry (goal_work entry)
 
--- the text of a goal's outcome
-abbrev pub text_of_goal : Names → List Rule → Entry → List ℕ
-text_of_goal names rules entry = result_text names rules entry.name entry.justs (goal_outcome rules entry)
+-- the piece of a goal with this outcome: a text that goes before, and the text of the outcome; its verdict is the outcome's. A tree
+-- proves the goal by steps of the rules, no path of it has more steps than the goal's fuel, and a goal that is closed is derivable.
+pub record IsBlock (names : Names) (rules : List Rule) (entry : Entry) (before : List ℕ) (o : Outcome Sequent) (p : Piece) : Type 0 where
+  pub valid : (t : Tree Sequent) → o ≡ outcome.Tree t → Proves rules entry.justs t entry.goal
+  pub low : (t : Tree Sequent) → o ≡ outcome.Tree t → tree_depth_of t ≤ entry.fuel
+  pub derivable : IsTrue (is_closed_outcome o) → IsDerivable rules entry.goal
+  pub text : p.text ≡ before ++ result_text names rules entry.name entry.justs o
+  pub verdict : p.verdict ≡ verdict_of o
+
+-- a goal's piece if it is evaluated from left to right
+abbrev pub IsEvaluated : Names → List Rule → Entry → Piece → Type 0
+IsEvaluated names rules entry p = IsBlock names rules entry [] (goal_outcome rules entry) p
+
+-- a goal's piece if these events are drilled: the replies to them and the outcome are the trace's, and the text of the replies goes before
+abbrev pub IsDrilled : Names → List Rule → List Event → Entry → Piece → Type 0
+IsDrilled names rules events entry p =
+    (replies : List Reply)
+    × (o : Outcome Sequent)
+    × IsTrace (evaluate_in rules entry) (goal_work entry) events replies o
+    × IsBlock names rules entry (trace_text names entry.name events replies) o p
 
 -- the events of each goal are in their ranges
 abbrev pub GoalsInRange : List Section → Type 0
 GoalsInRange sections = (name : Sym) → IsTrue (are_in_range (events_of sections name))
-
--- a goal's block if these events are drilled: the text of the replies to them, and then the text of its outcome
-abbrev pub IsDrilled : Names → List Rule → List Event → Entry → Block → Type 0
-IsDrilled names rules events entry b =
-    (replies : List Reply)
-    × IsTrace (evaluate_in rules entry) (goal_work entry) events replies (goal_outcome rules entry)
-    × (b ≡ record { text = trace_text names entry.name events replies ++ text_of_goal names rules entry; closed = is_closed (goal_outcome rules entry) })
-
--- a goal's block: the text of its outcome, after the text of the replies to its events if a schedule is drilled
-abbrev pub IsBlock : Names → List Rule → Option (List Section) → Entry → Block → Type 0
-IsBlock names rules None entry b = b ≡ record { text = text_of_goal names rules entry; closed = is_closed (goal_outcome rules entry) }
-IsBlock names rules (Some sections) entry b = IsDrilled names rules (events_of sections entry.name) entry b
-
--- a block for each goal, in order
-abbrev pub AreBlocks : (Entry → Block → Type 0) → List Entry → List Block → Type 0
-AreBlocks Is [] [] = ⊤
-AreBlocks Is (e ∷ es) (b ∷ bs) = Is e b × AreBlocks Is es bs
-AreBlocks Is [] (b ∷ bs) = ⊥
-AreBlocks Is (e ∷ es) [] = ⊥
-
--- the answer of these blocks
-abbrev pub answer_of_blocks : List Block → Answer
-answer_of_blocks bs = Blocks (map (λ b. b.text) bs) (list_all (λ b. b.closed) bs)
-
--- the goals are answered by their blocks
-abbrev pub GoalsAnswer : Names → List Rule → Option (List Section) → List Entry → Answer → Type 0
-GoalsAnswer names rules schedule entries answer = (bs : List Block) × AreBlocks (IsBlock names rules schedule) entries bs × (answer ≡ answer_of_blocks bs)

@@ -1,9 +1,10 @@
 pub mod Answers
 pub mod Commands
 pub mod Goals
-pub mod Headline
-pub mod Laws
 pub mod Lines
+pub mod Loaded
 pub mod Loads
+pub mod Parts
+pub mod Proofs
 pub mod Runs
-pub mod Stops
+pub mod Sessions

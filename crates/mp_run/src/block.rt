@@ -1,13 +1,16 @@
-ghost use Rattle.std.specs.Prelude.{◌≡◌, Some, None, IfOk};
+ghost use Rattle.std.specs.Prelude.{◌≡◌, IfOk};
+ghost use Rattle.mp_drill.specs.Sections.{events_of};
+ghost use Rattle.mp_theory.specs.Tables.{AreRules};
 ghost use Rattle.mp_scripttext.specs.Entries.{IsGoodEntry};
-ghost use Rattle.mp_run.specs.Goals.{GoalsInRange, IsBlock};
-ghost use Rattle.mp_run.specs.Goals.{is_closed as is_closed_of};
+ghost use Rattle.mp_run.specs.Goals.{GoalsInRange, IsEvaluated, IsDrilled};
+ghost use Rattle.mp_run.specs.Goals.{is_closed_outcome as is_closed_of, verdict_of as verdict_of_outcome};
 
+use crate::piece::{Piece, Verdict};
 use mp_drill::{Sections, drill};
 use mp_eval::evaluate;
-use mp_logic::{List as Items, NoMemory, Text, leaf_count};
+use mp_logic::{List as Items, NoMemory, leaf_count};
 use mp_names::Names;
-use mp_refiner::Refiner;
+use mp_refiner::{Refiner, step_law};
 use mp_report::{result_text, trace_text};
 use mp_scripttext::Entry;
 use mp_strategy::{Outcome, Problem, TacId, Work};
@@ -15,13 +18,6 @@ use mp_term::Sequent;
 use mp_termtext::push_bytes;
 use mp_theory::Theory;
 use std::alloc::Global;
-
-/// A goal's text, and whether its outcome is a tree without open leaves.
-#[derive(Drop)]
-pub struct Block {
-    pub text: Text,
-    pub closed: bool,
-}
 
 /// Whether the outcome is a tree without open leaves.
 fn is_closed(outcome: &Outcome<Sequent>) -> bool
@@ -33,15 +29,27 @@ fn is_closed(outcome: &Outcome<Sequent>) -> bool
     }
 }
 
+/// The verdict on the outcome.
+fn verdict_of(outcome: &Outcome<Sequent>) -> Verdict
+    ensures { result ≡ verdict_of_outcome outcome.now }
+{
+    if is_closed(outcome) {
+        Verdict::Closed
+    } else {
+        Verdict::Open
+    }
+}
+
 /// The block of a goal that is evaluated from left to right.
 pub fn seq_block(
     alloc: Global,
     names: &Names,
     theory: &Theory,
     entry: Entry,
-) -> Result<Block, NoMemory>
+) -> Result<Piece, NoMemory>
+    requires rules { AreRules theory.now }
     requires good { IsGoodEntry theory.now entry }
-    ensures { IfOk result (IsBlock names.now theory.now None entry) }
+    ensures { IfOk result (IsEvaluated names.now theory.now entry) }
 {
     let Entry {
         name,
@@ -50,14 +58,16 @@ pub fn seq_block(
         justs,
         tacs,
     } = entry;
+    // Each step of a tree is a step of a rule.
+    step_law();
     let refiner = Refiner::new(theory);
     let problem = Problem::new(&refiner, justs, tacs);
     let work = Work::of(&problem, TacId(0), fuel, goal);
     let outcome = evaluate(alloc, &problem, &work)?;
     let text = result_text(alloc, names, theory, name, &problem.justs, &outcome)?;
-    Ok(Block {
+    Ok(Piece {
         text,
-        closed: is_closed(&outcome),
+        verdict: verdict_of(&outcome),
     })
 }
 
@@ -68,10 +78,11 @@ pub fn drill_block(
     theory: &Theory,
     sections: &Sections,
     entry: Entry,
-) -> Result<Block, NoMemory>
+) -> Result<Piece, NoMemory>
+    requires rules { AreRules theory.now }
     requires good { IsGoodEntry theory.now entry }
     requires range { GoalsInRange sections.now }
-    ensures { IfOk result (IsBlock names.now theory.now (Some sections.now) entry) }
+    ensures { IfOk result (IsDrilled names.now theory.now (events_of sections.now entry.name) entry) }
 {
     let Entry {
         name,
@@ -80,6 +91,8 @@ pub fn drill_block(
         justs,
         tacs,
     } = entry;
+    // Each step of a tree is a step of a rule.
+    step_law();
     let refiner = Refiner::new(theory);
     let problem = Problem::new(&refiner, justs, tacs);
     let work = Work::of(&problem, TacId(0), fuel, goal);
@@ -89,8 +102,8 @@ pub fn drill_block(
     let result = result_text(alloc, names, theory, name, &problem.justs, &outcome)?;
     let mut text = trace.into_vec();
     push_bytes(&mut text, result.as_slice())?;
-    Ok(Block {
+    Ok(Piece {
         text: Items::from_vec(text),
-        closed: is_closed(&outcome),
+        verdict: verdict_of(&outcome),
     })
 }

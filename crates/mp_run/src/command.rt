@@ -2,7 +2,7 @@ ghost use Rattle.std.specs.Prelude.{◌≡◌};
 ghost use Rattle.std.specs.Option.{option_map};
 ghost use Rattle.std.specs.Str.{is_utf8 as is_utf8_of};
 ghost use Rattle.mp_run.specs.Commands.{command_of as command_of_words};
-ghost use Rattle.mp_run.specs.Stops.{command_seen};
+ghost use Rattle.mp_run.specs.Loaded.{command_seen};
 
 use mp_logic::Text;
 use std::str;

@@ -1,33 +1,36 @@
-ghost use Rattle.std.specs.Prelude.{◌≡◌, ◌&&◌, ℕ, List, IfOk};
-ghost use Rattle.std.specs.Io.KnownBytes.{Appends};
-ghost use Rattle.mp_run.specs.Goals.{IsBlock};
+ghost use Rattle.std.specs.Prelude.{◌≡◌, List, IfOk};
+ghost use Rattle.mp_ports.specs.Calls.{Put, Chain};
+ghost use Rattle.mp_run.specs.Loaded.{IsPiece, ScheduleInRange, PutsPieces};
+ghost use Rattle.mp_run.specs.Sessions.{ends as ends_of, next_status as next_status_of};
+ghost use Rattle.mp_theory.specs.Tables.{AreRules};
 ghost use Rattle.mp_scripttext.specs.Entries.{IsGoodEntry, EachGood};
-ghost use Rattle.mp_run.specs.Loads.{GoalsWrite, ScheduleInRange};
-ghost use Rattle.mp_run.specs.Stops.{WriteCause};
 
-use crate::block::{Block, drill_block, seq_block};
+use crate::block::{drill_block, seq_block};
 use crate::loading::Loaded;
+use crate::piece::{Piece, Verdict};
 use crate::status::Status;
 use mp_drill::{Sections, some_trace};
 use mp_logic::{List as Items, NoMemory, Waiting};
 use mp_names::Names;
 use mp_ports::Sink;
+use mp_refiner::step_law;
 use mp_scripttext::Entry;
 use mp_term::Sequent;
 use mp_theory::Theory;
 use std::alloc::Global;
 
-/// The block of a goal.
-fn block(
+/// The piece of a goal.
+fn piece_of(
     alloc: Global,
     names: &Names,
     theory: &Theory,
     schedule: &Option<Sections>,
     entry: Entry,
-) -> Result<Block, NoMemory>
+) -> Result<Piece, NoMemory>
+    requires rules { AreRules theory.now }
     requires good { IsGoodEntry theory.now entry }
     requires range { ScheduleInRange schedule.now }
-    ensures { IfOk result (IsBlock names.now theory.now schedule.now entry) }
+    ensures { IfOk result (IsPiece names.now theory.now schedule.now entry) }
 {
     match schedule {
         None => seq_block(alloc, names, theory, entry),
@@ -35,15 +38,29 @@ fn block(
     }
 }
 
-/// Whether both hold.
-fn both(one: bool, other: bool) -> bool
-    ensures { result ≡ (one && other) }
+/// The status after a piece of this verdict, by the status before it.
+fn next_status(verdict: Verdict, before: Status) -> Status
+    ensures { result ≡ next_status_of verdict before }
 {
-    one && other
+    match verdict {
+        Verdict::Closed => before,
+        Verdict::Open => Status::NotAll,
+        Verdict::Ends(status) => status,
+    }
 }
 
-/// Puts the block of each goal, in order.
-fn put_blocks<K: Sink>(
+/// Whether the run ends after a piece of this verdict.
+fn ends(verdict: Verdict) -> bool
+    ensures { result ≡ ends_of verdict }
+{
+    match verdict {
+        Verdict::Closed | Verdict::Open => false,
+        Verdict::Ends(_) => true,
+    }
+}
+
+/// Puts the piece of each goal, in order, each by one call.
+fn put_pieces<K: Sink>(
     alloc: Global,
     names: &Names,
     theory: &Theory,
@@ -51,39 +68,39 @@ fn put_blocks<K: Sink>(
     entries: Items<Entry>,
     out: &mut K,
 ) -> Status
+    requires rules { AreRules theory.now }
     requires goals { EachGood theory.now entries }
     requires range { ScheduleInRange schedule.now }
-    ensures writes { (text : List ℕ) × Appends (K.taken out.old) (K.taken out.new) text × GoalsWrite (IsBlock names.now theory.now schedule.now) entries result text }
-    ensures cause { WriteCause (K.faults out.old) (K.faults out.new) result }
+    ensures { (calls : List Put) × Chain K.puts out.old out.new calls × PutsPieces (IsPiece names.now theory.now schedule.now) entries calls result }
 {
-    // Each goal has a block, also one whose block is never made.
+    // Each goal has a piece, also one whose piece is never made.
     some_trace::<Sequent>();
-    let mut all_closed = true;
+    step_law();
+    let mut status = Status::AllClosed;
     let mut waiting = Waiting::new(entries);
     while let Some(entry) = waiting.next() {
-        let block = match block(alloc, names, theory, schedule, entry) {
-            Ok(block) => block,
+        let piece = match piece_of(alloc, names, theory, schedule, entry) {
+            Ok(piece) => piece,
             Err(_) => return Status::NoMemory,
         };
-        match out.put(block.text.as_slice()) {
+        match out.put(piece.text.as_slice()) {
             Ok(()) => {}
             Err(_) => return Status::WriteFault,
         }
-        all_closed = both(all_closed, block.closed);
+        status = next_status(piece.verdict, status);
+        if ends(piece.verdict) {
+            return status;
+        }
     }
-    if all_closed {
-        Status::AllClosed
-    } else {
-        Status::NotAll
-    }
+    status
 }
 
-/// Puts the block of each goal of what was loaded.
+/// Puts the piece of each goal of what was loaded.
 pub fn put_loaded<K: Sink>(alloc: Global, loaded: Loaded, out: &mut K) -> Status
+    requires rules { AreRules loaded.theory }
     requires goals { EachGood loaded.theory loaded.script.entries }
     requires range { ScheduleInRange loaded.schedule }
-    ensures writes { (text : List ℕ) × Appends (K.taken out.old) (K.taken out.new) text × GoalsWrite (IsBlock loaded.names loaded.theory loaded.schedule) loaded.script.entries result text }
-    ensures cause { WriteCause (K.faults out.old) (K.faults out.new) result }
+    ensures { (calls : List Put) × Chain K.puts out.old out.new calls × PutsPieces (IsPiece loaded.names loaded.theory loaded.schedule) loaded.script.entries calls result }
 {
     let Loaded {
         names,
@@ -91,5 +108,5 @@ pub fn put_loaded<K: Sink>(alloc: Global, loaded: Loaded, out: &mut K) -> Status
         script,
         schedule,
     } = loaded;
-    put_blocks(alloc, &names, &theory, &schedule, script.entries, out)
+    put_pieces(alloc, &names, &theory, &schedule, script.entries, out)
 }

@@ -1,15 +1,42 @@
-ghost use Rattle.mp_run.specs.Laws.{OneAnswer, OneOutput, SomeAnswer};
+ghost use Rattle.std.specs.Prelude.{◌≡◌, ◌≢◌, ◌⊎◌, ℕ, List, Option, Some, None};
+ghost use Rattle.std.specs.Io.KnownBytes.{Appends};
+ghost use Rattle.mp_ports.specs.Calls.{Read, Put, Chain};
+ghost use Rattle.mp_ports.specs.Causes.{Quiet};
+ghost use Rattle.mp_run.specs.declared.status.Status.{Status as Ending};
+ghost use Rattle.mp_run.specs.Answers.{AreTold, Answers, Writes, RunCause, Keeps};
+ghost use Rattle.mp_run.specs.Commands.{Command, command_of};
+ghost use Rattle.mp_run.specs.Sessions.{Session, CommandSession};
 
+use crate::status::Status;
 use mp_drill::{one_schedule_text, one_trace, some_trace};
-use mp_scripttext::one_text as one_script_text;
+use mp_ports::{Shelf, Sink};
+use mp_refiner::step_law;
+use mp_scripttext::{one_text as one_script_text, read_goals_are_good};
 use mp_term::Sequent;
-use mp_theorytext::one_text as one_theory_text;
+use mp_theorytext::{one_text as one_theory_text, read_rules_are_rules};
 
-/// Over files whose bytes are told a command has one answer, so runs that write whole answers end under one status and
-/// write the same bytes. It rests on the laws that it calls: a text says one thing, and a schedule has one trace.
+/// What follows of the calls of a run, whatever the shelf and the sink tell: what is written under each status; that a fault comes
+/// only where its count rose, and another status, memory aside, only where none did; that what the shelf holds stays; that
+/// the whole answer to the files is written where no fault is counted and memory suffices; and that words that are no command end
+/// with Usage or WriteFault, and leave the shelf untouched.
+pub fn runs_answer<H: Shelf, K: Sink>()
+    ensures writes { (s t : H) (o p : K) (reads : List Read) (puts : List Put) (command : Option Command) (end : Ending) → Chain H.reads s t reads → Chain K.puts o p puts → Session command reads puts end
+        → (text : List ℕ) × Appends (K.taken o) (K.taken p) text × Writes command reads end text }
+    ensures cause { (s t : H) (o p : K) (reads : List Read) (puts : List Put) (command : Option Command) (end : Ending) → Chain H.reads s t reads → Chain K.puts o p puts → Session command reads puts end
+        → RunCause end (H.faults s) (H.faults t) (K.faults o) (K.faults p) }
+    ensures kept { (s t : H) (reads : List Read) → Chain H.reads s t reads → Keeps (H.bytes s) (H.bytes t) }
+    ensures answer { (s t : H) (o p : K) (reads : List Read) (puts : List Put) (command : Command) (end : Ending) → Chain H.reads s t reads → Chain K.puts o p puts → CommandSession command reads puts end
+        → Quiet (H.faults s) (H.faults t) → Quiet (K.faults o) (K.faults p) → (end ≡ Status.NoMemory → ⊥)
+        → (text : List ℕ) × Appends (K.taken o) (K.taken p) text × Answers (H.bytes s) command end text }
+    ensures usage { (s t : H) (o p : K) (reads : List Read) (puts : List Put) (end : Ending) → Chain H.reads s t reads → Chain K.puts o p puts → Session None reads puts end
+        → (t ≡ s) × ((end ≡ Status.Usage) ⊎ (end ≡ Status.WriteFault)) }
+{}
+
+/// Over files whose bytes are told a command has one answer. It rests on the laws that it calls: a text says one thing, and a
+/// schedule has one trace.
 pub fn one_answer()
-    ensures answer { OneAnswer }
-    ensures output { OneOutput }
+    ensures { (files : List ℕ → Option (List ℕ)) (command : Command) → AreTold files command → (s t : Ending) (text bytes : List ℕ) → Answers files command s text → Answers files command t bytes
+        → (s ≡ t) × (text ≡ bytes) }
 {
     one_theory_text();
     one_script_text();
@@ -17,10 +44,14 @@ pub fn one_answer()
     one_trace::<Sequent>();
 }
 
-/// Over files whose bytes are told a command has an answer: each text has a value or a fault, and each schedule of a
-/// goal has a trace.
+/// Over files whose bytes are told each command that words give has an answer: each text has a value or a fault, and each schedule
+/// of a goal has a trace.
 pub fn some_answer()
-    ensures { SomeAnswer }
+    ensures { (files : List ℕ → Option (List ℕ)) (words : List (List ℕ)) (command : Command) → command_of words ≡ Some command → AreTold files command
+        → (s : Ending) × (text : List ℕ) × Answers files command s text }
 {
     some_trace::<Sequent>();
+    step_law();
+    read_rules_are_rules();
+    read_goals_are_good();
 }

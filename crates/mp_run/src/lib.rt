@@ -8,13 +8,14 @@ mod laws;
 mod limits;
 mod lines;
 mod loading;
+mod piece;
 mod reading;
 mod run;
 mod status;
 mod stop;
 mod telling;
 
-pub use laws::{one_answer, some_answer};
-pub use limits::LONGEST_FILE;
+pub use laws::{one_answer, runs_answer, some_answer};
+pub use limits::{LONGEST_FILE, LONGEST_TREES};
 pub use run::run_here;
 pub use status::Status;

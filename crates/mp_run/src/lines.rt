@@ -1,14 +1,26 @@
 ghost use Rattle.std.specs.Prelude.{◌≡◌, ◌++◌, [], OnOk, IfOk};
 ghost use Rattle.mp_report.specs.Refusals.{file_text, refusal_text as refusal_text_of};
 ghost use Rattle.mp_run.specs.Lines.{long_line as long_line_of, fault_line as fault_line_of};
-ghost use Rattle.mp_run.specs.Stops.{RefusesBy};
+ghost use Rattle.mp_run.specs.Lines.{limit_of as limit_of_kind};
+ghost use Rattle.mp_run.specs.Loaded.{RefusesBy};
 
+use crate::limits::{LONGEST_FILE, LONGEST_TREES};
 use crate::stop::Stop;
 use mp_logic::{List, NoMemory, Text};
 use mp_report::{FileKind, push_file, refusal_text};
-use mp_termtext::push_bytes;
+use mp_termtext::{push_bytes, push_decimal};
 use mp_words::TextErr;
 use std::alloc::Global;
+
+/// The limit on the length of a file, in bytes, by what it is read as.
+pub fn limit_of(kind: FileKind) -> u64
+    ensures { result ≡ limit_of_kind kind }
+{
+    match kind {
+        FileKind::Theory | FileKind::Script | FileKind::Schedule => LONGEST_FILE,
+        FileKind::Trees | FileKind::Jobs | FileKind::Checkpoint => LONGEST_TREES,
+    }
+}
 
 /// The line that tells that a file is over the limit.
 fn long_line(alloc: Global, file: FileKind) -> Result<Text, NoMemory>
@@ -17,7 +29,9 @@ fn long_line(alloc: Global, file: FileKind) -> Result<Text, NoMemory>
     let mut line = Vec::new(alloc);
     push_bytes(&mut line, b"refused: ")?;
     push_file(&mut line, file)?;
-    push_bytes(&mut line, b" is longer than 1048576 bytes\n")?;
+    push_bytes(&mut line, b" is longer than ")?;
+    push_decimal(&mut line, limit_of(file))?;
+    push_bytes(&mut line, b" bytes\n")?;
     Ok(List::from_vec(line))
 }
 

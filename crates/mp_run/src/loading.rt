@@ -1,16 +1,17 @@
-ghost use Rattle.std.specs.Prelude.{◌≡◌, ◌≤◌, ◌*◌, length, map, IfOk};
-ghost use Rattle.mp_run.specs.declared.limits.TheConstants.{LONGEST_FILE};
+ghost use Rattle.std.specs.Prelude.{◌≡◌, ◌≤◌, ◌*◌, List, length, map, IfOk};
+ghost use Rattle.mp_ports.specs.Calls.{Read, Chain};
+ghost use Rattle.mp_theory.specs.Tables.{AreRules};
 ghost use Rattle.mp_scripttext.specs.Entries.{EachGood};
-ghost use Rattle.mp_run.specs.Headline.{Answers, ScriptAnswers, ScheduleAnswers};
-ghost use Rattle.mp_run.specs.Loads.{LoadsSo};
-ghost use Rattle.mp_run.specs.Runs.{Keeps, ReadsFile};
-ghost use Rattle.mp_run.specs.Stops.{StopCause, command_seen, word_seen};
+ghost use Rattle.mp_run.specs.declared.limits.TheConstants.{LONGEST_FILE};
+ghost use Rattle.mp_run.specs.Commands.{Named};
+ghost use Rattle.mp_run.specs.Loaded.{LoadsSo, command_seen, word_seen, task_of, third_of};
+ghost use Rattle.mp_run.specs.Loads.{loads, after_script, after_theory};
 
 use crate::command::Command;
 use crate::reading::{schedule_of, script_of, theory_of};
 use crate::stop::Stop;
 use mp_drill::Sections;
-use mp_logic::{List, NoMemory, Sym, Text};
+use mp_logic::{List as Items, NoMemory, Sym, Text};
 use mp_names::Names;
 use mp_ports::Shelf;
 use mp_scripttext::Script;
@@ -28,10 +29,10 @@ pub struct Loaded {
 }
 
 /// The names of the goals, in order.
-fn goals_of(alloc: Global, script: &Script) -> Result<List<Sym>, NoMemory>
+fn goals_of(alloc: Global, script: &Script) -> Result<Items<Sym>, NoMemory>
     ensures { IfOk result (λ goals. goals ≡ map (λ e. e.name) script.now.entries) }
 {
-    let mut goals = List::with_capacity(alloc, script.entries.len())?;
+    let mut goals = Items::with_capacity(alloc, script.entries.len())?;
     for entry in script.entries.as_slice() {
         if let Err((_, refused)) = goals.push(entry.name) {
             return Err(refused);
@@ -50,10 +51,9 @@ fn with_schedule<H: Shelf>(
     schedule: Option<&Text>,
 ) -> Result<Loaded, Stop>
     requires room { length names ≤ 2 * LONGEST_FILE }
+    requires rules { AreRules theory }
     requires good { EachGood theory script.entries }
-    ensures answers { LoadsSo (ReadsFile (word_seen schedule.entry)) (ScheduleAnswers (H.bytes shelf.old) (word_seen schedule.entry) theory script names) result }
-    ensures kept { Keeps (H.bytes shelf.old) (H.bytes shelf.new) }
-    ensures cause { StopCause (H.faults shelf.old) (H.faults shelf.new) (H.longs shelf.old) (H.longs shelf.new) result }
+    ensures { (calls : List Read) × Chain H.reads shelf.old shelf.new calls × LoadsSo (task_of (word_seen schedule.entry)) (after_script (third_of (word_seen schedule.entry)) theory (script, names)) calls result }
 {
     let Some(file) = schedule else {
         return Ok(Loaded {
@@ -91,9 +91,8 @@ fn with_script<H: Shelf>(
     schedule: Option<&Text>,
 ) -> Result<Loaded, Stop>
     requires room { length names ≤ LONGEST_FILE }
-    ensures answers { LoadsSo (ReadsFile (word_seen schedule.entry)) (ScriptAnswers (H.bytes shelf.old) script.now (word_seen schedule.entry) theory names) result }
-    ensures kept { Keeps (H.bytes shelf.old) (H.bytes shelf.new) }
-    ensures cause { StopCause (H.faults shelf.old) (H.faults shelf.new) (H.longs shelf.old) (H.longs shelf.new) result }
+    requires rules { AreRules theory }
+    ensures { (calls : List Read) × Chain H.reads shelf.old shelf.new calls × LoadsSo (task_of (word_seen schedule.entry)) (after_theory (Named script.now) (third_of (word_seen schedule.entry)) (theory, names)) calls result }
 {
     let mut names = names;
     match script_of(alloc, shelf, &mut names, &theory, script) {
@@ -104,9 +103,7 @@ fn with_script<H: Shelf>(
 
 /// Reads the files of the command, in the order of its words.
 pub fn load<H: Shelf>(alloc: Global, shelf: &mut H, command: Command<'_>) -> Result<Loaded, Stop>
-    ensures answers { LoadsSo (ReadsFile (word_seen command.entry.schedule)) (Answers (H.bytes shelf.old) (command_seen command.entry)) result }
-    ensures kept { Keeps (H.bytes shelf.old) (H.bytes shelf.new) }
-    ensures cause { StopCause (H.faults shelf.old) (H.faults shelf.new) (H.longs shelf.old) (H.longs shelf.new) result }
+    ensures { (calls : List Read) × Chain H.reads shelf.old shelf.new calls × LoadsSo (task_of (word_seen command.entry.schedule)) (loads (command_seen command.entry)) calls result }
 {
     let mut names = Names::new(alloc);
     match theory_of(alloc, shelf, &mut names, command.theory) {

@@ -1,15 +1,18 @@
 ghost use Rattle.std.specs.Prelude.{◌≡◌, ◌≤◌, ◌+◌, ◌-◌, ◌<◌, ◌^◌, ℕ, List, length, IfOk};
-ghost use Rattle.mp_run.specs.declared.limits.TheConstants.{LONGEST_FILE};
+ghost use Rattle.mp_ports.specs.Calls.{Read, Chain};
+ghost use Rattle.mp_theory.specs.Tables.{AreRules};
 ghost use Rattle.mp_theorytext.specs.Reading.{ReadsTheory};
 ghost use Rattle.mp_scripttext.specs.Reading.{ReadsScript};
 ghost use Rattle.mp_drill.specs.ScheduleReading.{ReadsSchedule};
 ghost use Rattle.mp_scripttext.specs.Entries.{EachGood};
 ghost use Rattle.mp_drill.specs.ScheduleValues.{EachInRange};
-ghost use Rattle.mp_run.specs.Runs.{Keeps};
-ghost use Rattle.mp_run.specs.Stops.{GivesBytes, GivesValue, StopCause, StopsRead};
+ghost use Rattle.mp_run.specs.declared.limits.TheConstants.{LONGEST_FILE};
+ghost use Rattle.mp_run.specs.Commands.{Named};
+ghost use Rattle.mp_run.specs.Lines.{limit_of as limit_of_kind};
+ghost use Rattle.mp_run.specs.Loaded.{StopsRead, with_names};
+ghost use Rattle.mp_run.specs.Parts.{read_as, taken_from};
 
-use crate::limits::LONGEST_FILE;
-use crate::lines::{refused, too_long};
+use crate::lines::{limit_of, refused, too_long};
 use crate::stop::Stop;
 use mp_drill::{Section, read_schedule};
 use mp_logic::{List as Items, Sym, Text};
@@ -18,7 +21,7 @@ use mp_ports::{ReadErr, Shelf};
 use mp_report::FileKind;
 use mp_scripttext::{Script, read_script};
 use mp_theory::Theory;
-use mp_theorytext::read_theory;
+use mp_theorytext::{read_rules_are_rules, read_theory};
 use mp_words::TextFail;
 use std::alloc::Global;
 
@@ -29,11 +32,10 @@ fn read_file<H: Shelf>(
     name: &Text,
     kind: FileKind,
 ) -> Result<Text, Stop>
-    ensures kept { Keeps (H.bytes shelf.old) (H.bytes shelf.new) }
-    ensures gives { GivesBytes (H.bytes shelf.old name.now) kind result }
-    ensures cause { StopCause (H.faults shelf.old) (H.faults shelf.new) (H.longs shelf.old) (H.longs shelf.new) result }
+    ensures calls { (calls : List Read) × Chain H.reads shelf.old shelf.new calls × taken_from kind (Named name.now) calls result }
+    ensures bound { IfOk result (λ text. length text ≤ limit_of_kind kind) }
 {
-    match shelf.read(alloc, name, LONGEST_FILE) {
+    match shelf.read(alloc, name, limit_of(kind)) {
         Ok(text) => Ok(text),
         Err(ReadErr::TooLong) => Err(too_long(alloc, kind)),
         Err(ReadErr::Failed) => Err(Stop::Fault(kind)),
@@ -59,11 +61,11 @@ pub fn theory_of<H: Shelf>(
     name: &Text,
 ) -> Result<Theory, Stop>
     requires room { length names.old + LONGEST_FILE < 2 ^ 32 - 1 }
-    ensures kept { Keeps (H.bytes shelf.old) (H.bytes shelf.new) }
-    ensures gives { GivesValue (H.bytes shelf.old name.now) FileKind.Theory (ReadsTheory names.old) names.new result }
+    ensures rules { IfOk result (λ theory. AreRules theory) }
+    ensures calls { (calls : List Read) × Chain H.reads shelf.old shelf.new calls × read_as FileKind.Theory (Named name.now) (ReadsTheory names.old) calls (with_names names.new result) }
     ensures few { length names.new ≤ length names.old + LONGEST_FILE }
-    ensures cause { StopCause (H.faults shelf.old) (H.faults shelf.new) (H.longs shelf.old) (H.longs shelf.new) result }
 {
+    read_rules_are_rules();
     let source = read_file(alloc, shelf, name, FileKind::Theory)?;
     match read_theory(alloc, names, source.as_slice()) {
         Ok(theory) => Ok(theory),
@@ -80,11 +82,9 @@ pub fn script_of<H: Shelf>(
     name: &Text,
 ) -> Result<Script, Stop>
     requires room { length names.old + LONGEST_FILE < 2 ^ 32 - 1 }
-    ensures kept { Keeps (H.bytes shelf.old) (H.bytes shelf.new) }
-    ensures gives { GivesValue (H.bytes shelf.old name.now) FileKind.Script (ReadsScript theory.now names.old) names.new result }
+    ensures calls { (calls : List Read) × Chain H.reads shelf.old shelf.new calls × read_as FileKind.Script (Named name.now) (ReadsScript theory.now names.old) calls (with_names names.new result) }
     ensures good { IfOk result (λ script. EachGood theory.now script.entries) }
     ensures few { length names.new ≤ length names.old + LONGEST_FILE }
-    ensures cause { StopCause (H.faults shelf.old) (H.faults shelf.new) (H.longs shelf.old) (H.longs shelf.new) result }
 {
     let source = read_file(alloc, shelf, name, FileKind::Script)?;
     match read_script(alloc, names, theory, source.as_slice()) {
@@ -102,10 +102,8 @@ pub fn schedule_of<H: Shelf>(
     name: &Text,
 ) -> Result<Items<Section>, Stop>
     requires room { length names.old + LONGEST_FILE < 2 ^ 32 - 1 }
-    ensures kept { Keeps (H.bytes shelf.old) (H.bytes shelf.new) }
-    ensures gives { GivesValue (H.bytes shelf.old name.now) FileKind.Schedule (ReadsSchedule goals.now names.old) names.new result }
+    ensures calls { (calls : List Read) × Chain H.reads shelf.old shelf.new calls × read_as FileKind.Schedule (Named name.now) (ReadsSchedule goals.now names.old) calls (with_names names.new result) }
     ensures range { IfOk result EachInRange }
-    ensures cause { StopCause (H.faults shelf.old) (H.faults shelf.new) (H.longs shelf.old) (H.longs shelf.new) result }
 {
     let source = read_file(alloc, shelf, name, FileKind::Schedule)?;
     match read_schedule(alloc, names, goals, source.as_slice()) {

@@ -1,6 +1,6 @@
-ghost use Rattle.std.specs.Prelude.{◌≡◌, ◌≢◌, ℕ, List};
-ghost use Rattle.std.specs.Io.KnownBytes.{Appends};
-ghost use Rattle.mp_run.specs.Stops.{TellWrites, StopWrites, WriteCause};
+ghost use Rattle.std.specs.Prelude.{◌≡◌, ℕ, List};
+ghost use Rattle.mp_ports.specs.Calls.{Put, Chain};
+ghost use Rattle.mp_run.specs.Sessions.{PutsLine, StopPuts};
 
 use crate::lines::fault_line;
 use crate::status::Status;
@@ -8,11 +8,9 @@ use crate::stop::Stop;
 use mp_ports::Sink;
 use std::alloc::Global;
 
-/// Puts one line, and answers the status that it tells of.
+/// Puts one line by one call, and answers the status that it tells of.
 pub fn tell<K: Sink>(out: &mut K, line: &[u8], told: Status) -> Status
-    requires { told ≢ Status.WriteFault }
-    ensures writes { (text : List ℕ) × Appends (K.taken out.old) (K.taken out.new) text × TellWrites line.now told result text }
-    ensures cause { WriteCause (K.faults out.old) (K.faults out.new) result }
+    ensures { (calls : List Put) × Chain K.puts out.old out.new calls × PutsLine line.now told calls result }
 {
     match out.put(line) {
         Ok(()) => told,
@@ -22,8 +20,7 @@ pub fn tell<K: Sink>(out: &mut K, line: &[u8], told: Status) -> Status
 
 /// Tells what ended the run before its goals.
 pub fn tell_stop<K: Sink>(alloc: Global, stop: Stop, out: &mut K) -> Status
-    ensures writes { (text : List ℕ) × Appends (K.taken out.old) (K.taken out.new) text × StopWrites stop result text }
-    ensures cause { WriteCause (K.faults out.old) (K.faults out.new) result }
+    ensures { (calls : List Put) × Chain K.puts out.old out.new calls × StopPuts stop calls result }
 {
     match stop {
         Stop::Refused(line) => tell(out, line.as_slice(), Status::Refused),

@@ -1,9 +1,22 @@
 use Rattle.mp_drill.specs.ScheduleReading.{ReadsSchedule}
 use Rattle.mp_report.specs.declared.refusal.FileKind.TheVariants.{Schedule}
-use Rattle.mp_run.proofs.Files.{says_nothing}
+use Rattle.mp_run.specs.Commands.{Named}
+use Rattle.mp_run.proofs.FilesRead.{read_says, read_refused}
 use Rattle.mp_run.proofs.reading.schedule_of.Goals as goal
 
-pub returns-clause-gives : goal.returns-clause-gives
-returns-clause-gives g c =
-    says_nothing Schedule (ReadsSchedule c.args.goals.now c.args.names.now) (g.H.Shelf.bytes c.args.shelf.now c.args.name.now) c.in_ok-source.source c.as_slice.result.now c.in-Err.fail c.stop_of.result c.read_schedule.new.names
-    c.in_ok-source.ensures.gives c.as_slice.ensures c.in-Err.ensures.reads c.stop_of.ensures
+pub returns-in-Ok-clause-calls : goal.returns-in-Ok-clause-calls
+returns-in-Ok-clause-calls g c =
+    let h = c.in_ok-source.ensures.calls in (
+      h.0,
+      h.1,
+      read_says Schedule (Named c.args.name.now) (ReadsSchedule c.args.goals.now c.args.names.now) h.0 c.in_ok-source.source c.as_slice.result.now c.in-Ok.sections c.read_schedule.new.names h.2 c.as_slice.ensures c.in-Ok.ensures.reads,
+    )
+
+pub returns-clause-calls : goal.returns-clause-calls
+returns-clause-calls g c =
+    let h = c.in_ok-source.ensures.calls in (
+      h.0,
+      h.1,
+      read_refused Schedule (Named c.args.name.now) (ReadsSchedule c.args.goals.now c.args.names.now) h.0 c.in_ok-source.source c.as_slice.result.now c.read_schedule.new.names c.in-Err.fail c.stop_of.result h.2 c.as_slice.ensures
+          c.in-Err.ensures.reads c.stop_of.ensures,
+    )

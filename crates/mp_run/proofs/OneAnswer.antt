@@ -1,0 +1,250 @@
+-- A command has one answer over files that are told.
+use Rattle.std.proofs.Common.{◌≡◌, inl, inr, ℕ, List, [], ◌∷◌, ◌++◌, map, Option, Some, None, IsSome, Result, Ok, Err, refl, ap, sym, subst, ◌∙◌, arith}
+use Rattle.std.specs.Bool.{⊤}
+use Rattle.mp_logic.specs.Lists.{joined}
+use Rattle.mp_ports.specs.Calls.{Read}
+use Rattle.mp_ports.specs.declared.ports.ReadErr.{ReadErr}
+use Rattle.mp_ports.specs.declared.ports.ReadErr.TheVariants as err
+use Rattle.mp_term.specs.declared.sequent.Sequent.{Sequent}
+use Rattle.mp_theory.specs.declared.rule.Rule.{Rule}
+use Rattle.mp_strategy.specs.declared.work.Work.{Work}
+use Rattle.mp_strategy.specs.declared.outcome.Outcome.{Outcome}
+use Rattle.mp_words.specs.declared.word.Word.{Word}
+use Rattle.mp_words.specs.declared.fault.Fault.{Fault}
+use Rattle.mp_words.specs.declared.fail.TextErr.{TextErr}
+use Rattle.mp_words.specs.declared.fail.TextFail.TheVariants.{Bad}
+use Rattle.mp_words.specs.Texts.{OneText, ReadsText}
+use Rattle.mp_schematext.specs.Grammar.{IsTheory, StuckTheory}
+use Rattle.mp_theorytext.specs.Reading.{ReadsTheory, OneTheoryText}
+use Rattle.mp_theorytext.specs.Statics.{theory_faults}
+use Rattle.mp_theorytext.specs.Values.{rules_of}
+use Rattle.mp_scripttext.specs.declared.script.Entry.{Entry}
+use Rattle.mp_scripttext.specs.declared.script.Script.{Script as Goals}
+use Rattle.mp_scripttext.specs.Grammar.{IsScript, StuckScript}
+use Rattle.mp_scripttext.specs.Reading.{ReadsScript, OneScriptText}
+use Rattle.mp_scripttext.specs.Statics.{script_faults}
+use Rattle.mp_scripttext.specs.Values.{script_of}
+use Rattle.mp_drill.specs.declared.schedule.Event.{Event}
+use Rattle.mp_drill.specs.declared.schedule.Reply.{Reply}
+use Rattle.mp_drill.specs.Laws.{OneTrace}
+use Rattle.mp_drill.specs.ScheduleGrammar.{IsSchedule, StuckSchedule}
+use Rattle.mp_drill.specs.ScheduleReading.{ReadsSchedule, OneScheduleText}
+use Rattle.mp_drill.specs.ScheduleStatics.{schedule_faults}
+use Rattle.mp_drill.specs.ScheduleValues.{schedule_of}
+use Rattle.mp_drill.specs.Sections.{events_of}
+use Rattle.mp_report.specs.Refusals.{refusal_text}
+use Rattle.mp_report.specs.Traces.{trace_text}
+use Rattle.mp_report.specs.declared.refusal.FileKind.{FileKind}
+use Rattle.mp_report.specs.declared.refusal.FileKind.TheVariants as kind
+use Rattle.mp_run.specs.declared.piece.Piece.{Piece}
+use Rattle.mp_run.specs.declared.piece.Verdict.{Verdict}
+use Rattle.mp_run.specs.declared.piece.Verdict.TheVariants.{Closed, Open, Ends}
+use Rattle.mp_run.specs.declared.status.Status.{Status}
+use Rattle.mp_run.specs.declared.stop.Stop.{Stop}
+use Rattle.mp_run.specs.declared.stop.Stop.TheVariants as stop
+use Rattle.mp_run.specs.Answers.{IsFrom, AllFrom, IsTold, ThirdIsTold, AreTold, Whole, Answers}
+use Rattle.mp_run.specs.Commands.{From, Named, Made, Source, Task, Seq, Drill, Command}
+use Rattle.mp_run.specs.Goals.{goal_work, goal_outcome, evaluate_in, IsBlock, IsEvaluated, IsDrilled}
+use Rattle.mp_run.specs.Lines.{limit_of}
+use Rattle.mp_run.specs.Loads.{Input, Nothing, Events, Said, third_part, input_part, loads}
+use Rattle.mp_run.specs.Parts.{Names, Reading, Part, gives, and_then, Answered, taken_from, SaysSo, says, read_as}
+use Rattle.mp_run.specs.Sessions.{Others, Pieces, Says, DrillSays, status_of}
+
+-- ## Parts
+
+-- memory didn't run out
+abbrev pub IsEnd : {V : Type 0} → Result V Stop → Type 0
+IsEnd (Ok value) = ⊤
+IsEnd (Err (stop.Refused line)) = ⊤
+IsEnd (Err (stop.Fault file)) = ⊤
+IsEnd (Err stop.NoMemory) = ⊥
+
+module _ (files : List ℕ → Option (List ℕ)) where
+  -- over these files a part gives one thing
+  abbrev Determined : {V : Type 0} → Part V → Type 0
+  Determined {V} p = (calls others : List Read) (x y : Result V Stop) → AllFrom files calls → AllFrom files others → p calls x → p others y → IsEnd x → IsEnd y → x ≡ y
+
+  all_first : (xs ys : List Read) → AllFrom files (xs ++ ys) → AllFrom files xs
+  all_first [] ys h = tt
+  all_first (r ∷ rs) ys h = (h.0, all_first rs ys h.1)
+
+  all_last : (xs ys : List Read) → AllFrom files (xs ++ ys) → AllFrom files ys
+  all_last [] ys h = h
+  all_last (r ∷ rs) ys h = all_last rs ys h.1
+
+  gives_one : {V : Type 0} (value : V) → Determined (gives value)
+  gives_one value calls others x y f g (h, inl e) (k, inl d) a b = e ∙ sym d
+  gives_one {V} value calls others x y f g (h, inr e) k a b = absurd (subst (IsEnd {V = V}) e a)
+  gives_one {V} value calls others x y f g (h, inl e) (k, inr d) a b = absurd (subst (IsEnd {V = V}) d b)
+
+  end_there : (A B : Type 0) (end : Stop) → (let out : Result B Stop = Err end in IsEnd out) → (let out : Result A Stop = Err end in IsEnd out)
+  end_there A B (stop.Refused line) h = tt
+  end_there A B (stop.Fault file) h = tt
+  end_there A B stop.NoMemory h = h
+
+  as_value : {A : Type 0} (v w : A) → (let out : Result A Stop = Ok v in out ≡ Ok w) → v ≡ w
+  as_value v w e = cc
+
+  as_end : {A : Type 0} (v w : Stop) → (let out : Result A Stop = Err v in out ≡ Err w) → v ≡ w
+  as_end v w e = cc
+
+  not_both : {A : Type 0} (v : A) (w : Stop) → (let out : Result A Stop = Ok v in out ≡ Err w) → ⊥
+  not_both v w e = cc
+
+  then_one : {A B : Type 0} (first : Part A) (next : A → Part B) → Determined first → ((value : A) → Determined (next value)) → Determined (and_then first next)
+  then_one {A} {B} first next one more calls others x y f g (inl (end, h, e)) (inl (final, k, d)) a b =
+      let s = one calls others (Err end) (Err final) f g h k (end_there A B end (subst (IsEnd {V = B}) e a)) (end_there A B final (subst (IsEnd {V = B}) d b)) in
+      e ∙ ap Err (as_end end final s) ∙ sym d
+  then_one {A} {B} first next one more calls others x y f g (inl (end, h, e)) (inr (value, made, left, d, k, l)) a b =
+      let s = one calls made (Err end) (Ok value) f (all_first made left (subst (AllFrom files) d g)) h k (end_there A B end (subst (IsEnd {V = B}) e a)) tt in
+      absurd (not_both value end (sym s))
+  then_one {A} {B} first next one more calls others x y f g (inr (value, made, left, d, k, l)) (inl (end, h, e)) a b =
+      let s = one made others (Ok value) (Err end) (all_first made left (subst (AllFrom files) d f)) g k h tt (end_there A B end (subst (IsEnd {V = B}) e b)) in
+      absurd (not_both value end s)
+  then_one {A} {B} first next one more calls others x y f g (inr (v, made, left, d, k, l)) (inr (w, made', left', e, m, n)) a b =
+      let s = as_value v w (one made made' (Ok v) (Ok w) (all_first made left (subst (AllFrom files) d f)) (all_first made' left' (subst (AllFrom files) e g)) k m tt tt) in
+      more v left left' x y (all_last made left (subst (AllFrom files) d f)) (all_last made' left' (subst (AllFrom files) e g)) l (subst (λ (u : A). next u left' y) (sym s) n) a b
+
+  -- ## Files
+
+  answers_one : (k : FileKind) (told : Option (List ℕ)) → IsSome told → (one other : Result (List ℕ) ReadErr) (x y : Result (List ℕ) Stop) → IsFrom told (limit_of k) one → IsFrom told (limit_of k) other
+      → Answered k one x → Answered k other y → IsEnd x → IsEnd y → x ≡ y
+  answers_one k None is one other x y f g h l a b = absurd cc
+  answers_one k (Some bytes) is (Ok t) (Ok u) x y f g h l a b = h ∙ ap Ok (f.0 ∙ sym g.0) ∙ sym l
+  answers_one k (Some bytes) is (Ok t) (Err err.TooLong) x y f g h l a b = absurd (omega (arith, f.1, g))
+  answers_one k (Some bytes) is (Ok t) (Err err.Failed) x y f g h l a b = absurd g
+  answers_one k (Some bytes) is (Ok t) (Err err.NoMemory) x y f g h l a b = absurd g
+  answers_one k (Some bytes) is (Err err.TooLong) (Ok u) x y f g h l a b = absurd (omega (arith, g.1, f))
+  answers_one k (Some bytes) is (Err err.TooLong) (Err err.TooLong) x y f g (inl h) (inl l) a b = h ∙ sym l
+  answers_one k (Some bytes) is (Err err.TooLong) (Err err.TooLong) x y f g (inr h) l a b = absurd (subst IsEnd h a)
+  answers_one k (Some bytes) is (Err err.TooLong) (Err err.TooLong) x y f g (inl h) (inr l) a b = absurd (subst IsEnd l b)
+  answers_one k (Some bytes) is (Err err.TooLong) (Err err.Failed) x y f g h l a b = absurd g
+  answers_one k (Some bytes) is (Err err.TooLong) (Err err.NoMemory) x y f g h l a b = absurd g
+  answers_one k (Some bytes) is (Err err.Failed) other x y f g h l a b = absurd f
+  answers_one k (Some bytes) is (Err err.NoMemory) other x y f g h l a b = absurd f
+
+  taken_one : (k : FileKind) (from : From) → IsTold files from → Determined (taken_from k from)
+  taken_one k (Made text) is calls others x y f g h l a b = gives_one text calls others x y f g h l a b
+  taken_one k (Named name) is calls others x y f g (inl h) l a b = absurd (subst IsEnd h.1 a)
+  taken_one k (Named name) is calls others x y f g (inr h) (inl l) a b = absurd (subst IsEnd l.1 b)
+  taken_one k (Named name) is calls others x y f g (inr (one, d, h)) (inr (other, e, l)) a b =
+      answers_one k (files name) is one other x y (subst (AllFrom files) d f).0 (subst (AllFrom files) e g).0 h l a b
+
+  -- ## Texts
+
+  -- bytes say one value with one table of names or have one fault, and not both
+  record OneReading {V : Type 0} (reads : Reading V) : Type 1 where
+    pub value : (bytes : List ℕ) (v w : V) (names others : Names) → reads bytes (Ok v) names → reads bytes (Ok w) others → (v ≡ w) × (names ≡ others)
+    pub not_both : (bytes : List ℕ) (v : V) (e : TextErr) (names others : Names) → reads bytes (Ok v) names → reads bytes (Err (Bad e)) others → ⊥
+    pub fault : (bytes : List ℕ) (e f : TextErr) (names others : Names) → reads bytes (Err (Bad e)) names → reads bytes (Err (Bad f)) others → e ≡ f
+
+  text_read : {X V : Type 0} (Is : X → List Word → List Word → Type 0) (Stuck : List Word → List Word → Type 0) (faults : X → List Fault) (value : X → V) (old : Names)
+      → OneText Is Stuck faults value → OneReading (ReadsText Is Stuck faults value old)
+  text_read Is Stuck faults value old one = record {
+    value = λ bytes v w names others h k. (one.one_value old bytes v w h.0 k.0, h.1 ∙ sym k.1);
+    not_both = λ bytes v e names others h k. one.apart old bytes v e h.0 k.0;
+    fault = λ bytes e f names others h k. one.one_fault old bytes e f h.0 k.0;
+  }
+
+  said_one : {V : Type 0} (k : FileKind) (reads : Reading V) (text : List ℕ) (x y : Result (V × Names) Stop) → OneReading reads → SaysSo k reads text x → SaysSo k reads text y → IsEnd x → IsEnd y → x ≡ y
+  said_one k reads text (Ok v) (Ok w) one h l a b = let e = one.value text v.0 w.0 v.1 w.1 h l in λ i. Ok (e.0 i, e.1 i)
+  said_one k reads text (Ok v) (Err (stop.Refused line)) one h l a b = absurd (one.not_both text v.0 l.0 v.1 l.1 h l.2)
+  said_one k reads text (Ok v) (Err (stop.Fault file)) one h l a b = absurd l
+  said_one k reads text (Ok v) (Err stop.NoMemory) one h l a b = absurd b
+  said_one k reads text (Err (stop.Refused line)) (Ok w) one h l a b = absurd (one.not_both text w.0 h.0 w.1 h.1 l h.2)
+  said_one k reads text (Err (stop.Refused line)) (Err (stop.Refused other)) one h l a b =
+      let e = one.fault text h.0 l.0 h.1 l.1 h.2 l.2 in
+      ap (λ (t : List ℕ). Err (stop.Refused t)) (h.3 ∙ ap (refusal_text k) e ∙ sym l.3)
+  said_one k reads text (Err (stop.Refused line)) (Err (stop.Fault file)) one h l a b = absurd l
+  said_one k reads text (Err (stop.Refused line)) (Err stop.NoMemory) one h l a b = absurd b
+  said_one k reads text (Err (stop.Fault file)) y one h l a b = absurd h
+  said_one k reads text (Err stop.NoMemory) y one h l a b = absurd a
+
+  read_one : {V : Type 0} (k : FileKind) (from : From) (reads : Reading V) → IsTold files from → OneReading reads → Determined (read_as k from reads)
+  read_one k from reads is one =
+      then_one (taken_from k from) (says k reads) (taken_one k from is) (λ text calls others x y f g h l a b. said_one k reads text x y one h.1 l.1 a b)
+
+  module _ (theory : OneTheoryText) (script : OneScriptText) (schedule : OneScheduleText) where
+    third_one : (k : FileKind) (from : From) (goals : Goals) (names : Names) → IsTold files from → Determined (third_part k from goals names)
+    third_one kind.Schedule from goals names is =
+        let asked = map (λ (e : Entry). e.name) goals.entries in
+        then_one _ _ (read_one kind.Schedule from (ReadsSchedule asked names) is (text_read IsSchedule StuckSchedule (schedule_faults asked) schedule_of names (schedule asked))) (λ said. gives_one _)
+    third_one kind.Theory from goals names is = λ calls others x y f g h k a b. absurd h
+    third_one kind.Script from goals names is = λ calls others x y f g h k a b. absurd h
+    third_one kind.Trees from goals names is = λ calls others x y f g h k a b. absurd h
+    third_one kind.Jobs from goals names is = λ calls others x y f g h k a b. absurd h
+    third_one kind.Checkpoint from goals names is = λ calls others x y f g h k a b. absurd h
+
+    input_one : (third : Option Source) (goals : Goals) (names : Names) → ThirdIsTold files third → Determined (input_part third goals names)
+    input_one None goals names is = gives_one _
+    input_one (Some source) goals names is = third_one source.kind source.from goals names is
+
+    -- over files that are told the texts of a command say one thing
+    pub loads_one : (c : Command) → AreTold files c → Determined (loads c)
+    loads_one c told =
+        then_one _ _ (read_one kind.Theory c.theory (ReadsTheory []) told.0 (text_read IsTheory StuckTheory theory_faults rules_of [] theory))
+        (λ t. then_one _ _ (read_one kind.Script c.script (ReadsScript t.0 t.1) told.1 (text_read IsScript StuckScript (script_faults t.0) (script_of t.0) t.1 (script t.0)))
+        (λ s. then_one _ _ (input_one c.third s.0 s.1 told.2) (λ input. gives_one _)))
+
+-- ## Pieces
+
+others_one : (v : Verdict) (Are : List Piece → Type 0) (ps qs : List Piece) → ((h : Are ps) (k : Are qs) → ps ≡ qs) → Others v Are ps → Others v Are qs → ps ≡ qs
+others_one Closed Are ps qs one h k = one h k
+others_one Open Are ps qs one h k = one h k
+others_one (Ends s) Are ps qs one h k = h ∙ sym k
+
+pieces_one : {X : Type 0} (Is : X → Piece → Type 0) → ((x : X) (p q : Piece) → Is x p → Is x q → p ≡ q) → (xs : List X) (ps qs : List Piece) → Pieces Is xs ps → Pieces Is xs qs → ps ≡ qs
+pieces_one Is one [] [] [] h k = refl
+pieces_one Is one [] [] (q ∷ qs) h k = absurd k
+pieces_one Is one [] (p ∷ ps) qs h k = absurd h
+pieces_one Is one (x ∷ xs) [] qs h k = absurd h
+pieces_one Is one (x ∷ xs) (p ∷ ps) [] h k = absurd k
+pieces_one Is one (x ∷ xs) (p ∷ ps) (q ∷ qs) h k =
+    let first : p ≡ q = one x p q h.0 k.0 in
+    let rest : ps ≡ qs = others_one p.verdict (Pieces Is xs) ps qs (λ a b. pieces_one Is one xs ps qs a b) h.1 (subst (λ (r : Piece). Others r.verdict (Pieces Is xs) qs) (sym first) k.1) in
+    λ i. first i ∷ rest i
+
+same_piece : (p q : Piece) → p.text ≡ q.text → p.verdict ≡ q.verdict → p ≡ q
+same_piece p q e f = λ i. record { text = e i; verdict = f i }
+
+block_one : (names : Names) (rules : List Rule) (entry : Entry) (before : List ℕ) (o : Outcome Sequent) (p q : Piece) → IsBlock names rules entry before o p → IsBlock names rules entry before o q → p ≡ q
+block_one names rules entry before o p q h k = same_piece p q (h.text ∙ sym k.text) (h.verdict ∙ sym k.verdict)
+
+module _ (one : (eval : Work Sequent → Outcome Sequent) → OneTrace eval) where
+  drilled_one : (names : Names) (rules : List Rule) (events : List Event) (entry : Entry) (p q : Piece) → IsDrilled names rules events entry p → IsDrilled names rules events entry q → p ≡ q
+  drilled_one names rules events entry p q h k =
+      let same = one (evaluate_in rules entry) (goal_work entry) events h.0 k.0 h.1 k.1 h.2 k.2 in
+      let there : IsBlock names rules entry (trace_text names entry.name events h.0) h.1 q =
+      subst (λ (rs : List Reply). IsBlock names rules entry (trace_text names entry.name events rs) h.1 q) (sym same.0)
+      (subst (λ (o : Outcome Sequent). IsBlock names rules entry (trace_text names entry.name events k.0) o q) (sym same.1) k.3) in
+      block_one names rules entry (trace_text names entry.name events h.0) h.1 p q h.3 there
+
+  drill_one : (input : Input) (said : Said) (ps qs : List Piece) → DrillSays input said ps → DrillSays input said qs → ps ≡ qs
+  drill_one Nothing said ps qs h k = absurd h
+  drill_one (Events sections) said ps qs h k =
+      pieces_one (λ (e : Entry). IsDrilled said.names said.rules (events_of sections e.name) e) (λ e p q a b. drilled_one said.names said.rules (events_of sections e.name) e p q a b) said.goals ps qs h k
+
+  says_one : (task : Task) (said : Said) (ps qs : List Piece) → Says task said ps → Says task said qs → ps ≡ qs
+  says_one Seq said ps qs h k =
+      pieces_one (IsEvaluated said.names said.rules) (λ e p q a b. block_one said.names said.rules e [] (goal_outcome said.rules e) p q a b) said.goals ps qs h k
+  says_one Drill said ps qs h k = drill_one said.input said ps qs h k
+
+  whole_one : (task : Task) (out : Result Said Stop) (s t : Status) (text bytes : List ℕ) → Whole task out s text → Whole task out t bytes → (s ≡ t) × (text ≡ bytes)
+  whole_one task (Ok said) s t text bytes h k =
+      let same = says_one task said h.0 k.0 h.1 k.1 in
+      (h.2 ∙ ap status_of same ∙ sym k.2, h.3 ∙ ap (λ (ps : List Piece). joined (map (λ (p : Piece). p.text) ps)) same ∙ sym k.3)
+  whole_one task (Err (stop.Refused line)) s t text bytes h k = (h.0 ∙ sym k.0, h.1 ∙ sym k.1)
+  whole_one task (Err (stop.Fault file)) s t text bytes h k = (h.0 ∙ sym k.0, h.1 ∙ sym k.1)
+  whole_one task (Err stop.NoMemory) s t text bytes h k = absurd h
+
+  whole_end : (task : Task) (out : Result Said Stop) (s : Status) (text : List ℕ) → Whole task out s text → IsEnd out
+  whole_end task (Ok said) s text h = tt
+  whole_end task (Err (stop.Refused line)) s text h = tt
+  whole_end task (Err (stop.Fault file)) s text h = tt
+  whole_end task (Err stop.NoMemory) s text h = h
+
+  pub one_answer : OneTheoryText → OneScriptText → OneScheduleText → (files : List ℕ → Option (List ℕ)) (c : Command) → AreTold files c
+      → (s t : Status) (text bytes : List ℕ) → Answers files c s text → Answers files c t bytes → (s ≡ t) × (text ≡ bytes)
+  one_answer theory script schedule files c told s t text bytes h k =
+      let same = loads_one files theory script schedule c told h.0 k.0 h.2 k.2 h.1 k.1 h.3 k.3 (whole_end c.task h.2 s text h.4) (whole_end c.task k.2 t bytes k.4) in
+      whole_one c.task h.2 s t text bytes h.4 (subst (λ (out : Result Said Stop). Whole c.task out t bytes) (sym same) k.4)

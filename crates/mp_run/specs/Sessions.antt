@@ -1,0 +1,116 @@
+-- A run as its calls: what it reads and what it puts, in order, and how it ends.
+use Rattle.std.specs.Prelude.{◌≡◌, ℕ, ◌⊎◌, List, [], ◌∷◌, map, Bool, true, false, Option, Some, None, Result, Ok, Err, ⊤}
+use Rattle.mp_ports.specs.Calls.{Read, Put}
+use Rattle.mp_ports.specs.declared.ports.PutFailed.{PutFailed}
+use Rattle.mp_drill.specs.Sections.{events_of}
+use Rattle.mp_run.specs.declared.piece.Piece.{Piece}
+use Rattle.mp_run.specs.declared.piece.Verdict.{Verdict}
+use Rattle.mp_run.specs.declared.piece.Verdict.TheVariants.{Closed, Open, Ends}
+use Rattle.mp_run.specs.declared.status.Status.{Status}
+use Rattle.mp_run.specs.declared.status.Status.TheVariants as status
+use Rattle.mp_run.specs.declared.stop.Stop.{Stop}
+use Rattle.mp_run.specs.declared.stop.Stop.TheVariants as stop
+use Rattle.mp_run.specs.Commands.{Command, Task, Seq, Drill, usage_line}
+use Rattle.mp_run.specs.Goals.{IsEvaluated, IsDrilled}
+use Rattle.mp_run.specs.Lines.{fault_line}
+use Rattle.mp_run.specs.Loads.{Input, Nothing, Events, Said, loads}
+
+-- ## Pieces
+
+-- the piece ends the run
+abbrev pub ends : Verdict → Bool
+ends Closed = false
+ends Open = false
+ends (Ends s) = true
+
+-- after a piece that ends the run there is no other one; else these are the others
+abbrev pub Others : Verdict → (List Piece → Type 0) → List Piece → Type 0
+Others (Ends s) Are ps = ps ≡ []
+Others Closed Are ps = Are ps
+Others Open Are ps = Are ps
+
+-- a piece for each, in order, up to and including the first one that ends the run
+abbrev pub Pieces : {X : Type 0} → (X → Piece → Type 0) → List X → List Piece → Type 0
+Pieces Is [] [] = ⊤
+Pieces Is (x ∷ xs) (p ∷ ps) = Is x p × Others p.verdict (Pieces Is xs) ps
+Pieces Is [] (p ∷ ps) = ⊥
+Pieces Is (x ∷ xs) [] = ⊥
+
+-- the status after a piece, by the status before it: something open stays open
+abbrev pub next_status : Verdict → Status → Status
+next_status Closed before = before
+next_status Open before = status.NotAll
+next_status (Ends s) before = s
+
+-- the status after a piece and those after it: a piece that ends the run has the last word
+abbrev pub status_on : Verdict → Status → (Status → Status) → Status
+status_on Closed before later = later before
+status_on Open before later = later status.NotAll
+status_on (Ends s) before later = s
+
+-- the status after pieces, by the status before them
+abbrev pub status_after : List Piece → Status → Status
+status_after [] before = before
+status_after (p ∷ ps) before = status_on p.verdict before (status_after ps)
+
+-- the status of a run that put these pieces: the one that a piece ends it with; else AllClosed if each is closed, and NotAll if not
+abbrev pub status_of : List Piece → Status
+status_of ps = status_after ps status.AllClosed
+
+-- the events of each goal are drilled
+abbrev pub DrillSays : Input → Said → List Piece → Type 0
+DrillSays Nothing said ps = ⊥
+DrillSays (Events sections) said ps = Pieces (λ entry. IsDrilled said.names said.rules (events_of sections entry.name) entry) said.goals ps
+
+-- the pieces that a command puts, by its task and by what its texts say. A further command is a further row:
+--   prove: as seq, each outcome one that the strategy gives;   keep: each goal's node after its events, closed
+--   replay, expand: each tree with its verdict, a bad one ends the run;   work: a frame for each job
+--   resume: the outcome that each goal's node reaches;   load: one line, over texts that the run makes
+abbrev pub Says : Task → Said → List Piece → Type 0
+Says Seq said ps = Pieces (IsEvaluated said.names said.rules) said.goals ps
+Says Drill said ps = DrillSays said.input said ps
+
+-- ## Puts
+
+-- a put of these bytes
+abbrev pub put_of : List ℕ → Result (Unit {0}) PutFailed → Put
+put_of bytes answer = record { bytes = bytes; answer = answer }
+
+-- after a put that was taken these; one that failed is the last call
+abbrev pub Then : Result (Unit {0}) PutFailed → Type 0 → List Put → Status → Type 0
+Then (Ok done) rest calls s = rest
+Then (Err failed) rest calls s = (calls ≡ []) × (s ≡ status.WriteFault)
+
+-- each text is put by one call, in order, and the run ends so; a put that fails ends it, and so does want of memory before a put
+abbrev pub Puts : List (List ℕ) → Status → List Put → Status → Type 0
+Puts [] end [] s = s ≡ end
+Puts [] end (c ∷ cs) s = ⊥
+Puts (t ∷ ts) end [] s = s ≡ status.NoMemory
+Puts (t ∷ ts) end (c ∷ cs) s = (c.bytes ≡ t) × Then c.answer (Puts ts end cs s) cs s
+
+-- a line is put by one call, and the run ends so, or by the fault of that call
+abbrev pub PutsLine : List ℕ → Status → List Put → Status → Type 0
+PutsLine line end calls s = (answer : Result (Unit {0}) PutFailed) × (calls ≡ put_of line answer ∷ []) × Then answer (s ≡ end) [] s
+
+-- ## Sessions
+
+-- what is put after the run was ended before its goals: the line of a refusal; the line of a file that couldn't be read, if there is
+-- memory for it; or nothing
+abbrev pub StopPuts : Stop → List Put → Status → Type 0
+StopPuts (stop.Refused line) calls s = PutsLine line status.Refused calls s
+StopPuts (stop.Fault file) calls s = PutsLine (fault_line file) status.ReadFault calls s ⊎ ((calls ≡ []) × (s ≡ status.NoMemory))
+StopPuts stop.NoMemory calls s = (calls ≡ []) × (s ≡ status.NoMemory)
+
+-- what is put after the texts were read, or after the run was ended before its goals
+abbrev pub Ended : Task → Result Said Stop → List Put → Status → Type 0
+Ended task (Ok said) calls s = (ps : List Piece) × Says task said ps × Puts (map (λ p. p.text) ps) (status_of ps) calls s
+Ended task (Err end) calls s = StopPuts end calls s
+
+-- a command's run: the reads and puts that it made, in order, and the status that it ended with
+abbrev pub CommandSession : Command → List Read → List Put → Status → Type 0
+CommandSession c reads puts s = (out : Result Said Stop) × loads c reads out × Ended c.task out puts s
+
+-- a run: if the words are no command, nothing is read and the usage line is put
+abbrev pub Session : Option Command → List Read → List Put → Status → Type 0
+Session None reads puts s = (reads ≡ []) × PutsLine usage_line status.Usage puts s
+Session (Some c) reads puts s = CommandSession c reads puts s
