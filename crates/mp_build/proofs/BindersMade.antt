@@ -11,7 +11,7 @@ use Rattle.mp_term.specs.declared.term.Term.{Term, Var}
 use Rattle.mp_term.specs.Terms.{all_true}
 use Rattle.mp_term.specs.Limits.{few_binders_of, sequent_few_binders_of}
 use Rattle.mp_term.proofs.Layers.{few_bound, few-Var, few-Op, few_bound-is}
-use Rattle.mp_term.specs.Subst.{variables}
+use Rattle.mp_term.specs.Subst.{variables, upto}
 use Rattle.mp_term.proofs.BinderLaws.{few-sub}
 use Rattle.mp_schema.specs.declared.pattern.ParamPat.{ParamPat}
 use Rattle.mp_schema.specs.declared.pattern.Pattern.{Pattern}
@@ -21,14 +21,13 @@ use Rattle.mp_schema.specs.declared.schema.Item.{Item}
 use Rattle.mp_schema.specs.declared.schema.Item.TheVariants.{Ctx, Hyp}
 use Rattle.mp_schema.specs.declared.schema.Schema.{Schema}
 use Rattle.mp_schema.specs.Induction.{OfEachBody, OfEachArg, each_pattern}
-use Rattle.mp_schema.specs.Instances.{Ground, inst_of, inst_bound, made_each, upto, all_pass}
+use Rattle.mp_schema.specs.Instances.{Ground, inst_of, inst_bound, made_each, all_pass}
 use Rattle.mp_schema.specs.Limits.{few_of, few_of_bound, few_of_item, few_of_schema}
 use Rattle.mp_schema.specs.Sequents.{Instance, Spot, first_spot, ground_at, telescope, hyps_of, behind, hyps_from, behind_all, seq}
-use Rattle.mp_schema.proofs.Layers.{inst-Var, inst-Op, inst-Meta, inst_bound-is}
+use Rattle.mp_schema.proofs.Layers.{inst-Var, inst-Op, inst-Meta, inst_bound-is, few_of-Op, few_of-Meta, few_of_bound-is}
 use Rattle.mp_build.specs.Built.{term_of}
 use Rattle.mp_build.specs.Laws.{HasFewBinders}
 use Rattle.mp_build.proofs.Grounds.{variables-are}
-use Rattle.mp_build.proofs.LimitLayers.{few_of-Op, few_of-Meta, few_of_bound-is}
 
 abbrev AllFew : List Term → Type 0
 AllFew ts = All (λ t. IsTrue (few_binders_of t)) ts

@@ -1,23 +1,22 @@
 -- The variables that a value has before its arguments: how many they are, and in which scope.
-use Rattle.std.proofs.Common.{◌≡◌, ℕ, ◌+◌, ◌-◌, ◌<◌, ◌≤◌, List, [], ◌∷◌, ◌++◌, length, map, get_or, zero, suc, max, sum, IsTrue, refl, ap, ◌∙◌, inl, inr, arith}
+use Rattle.std.proofs.Common.{◌≡◌, ℕ, ◌+◌, ◌-◌, ◌<◌, ◌≤◌, List, [], ◌∷◌, ◌++◌, length, map, get_or, zero, suc, max, IsTrue, refl, ap, ◌∙◌, inl, inr, arith}
 use Rattle.std.specs.Prelude.{All}
 use Rattle.std.proofs.lemmas.Bool.{cases_lt}
 use Rattle.std.proofs.lemmas.Bool.Decides.{nat_tests}
 use Rattle.std.proofs.lemmas.Grind.{common_steps}
-use Rattle.std.proofs.lemmas.List.{length-map, length-append, map-append, append_assoc, get_or-map, get_or_append_left, get_or-append_right}
+use Rattle.std.proofs.lemmas.List.{length-map, map-append, append_assoc, get_or-map, get_or_append_left, get_or-append_right}
 use Rattle.std.proofs.lemmas.List.Elements.{All-append}
 use Rattle.mp_logic.specs.declared.sym.Sym.{Sym}
 use Rattle.mp_term.specs.declared.term.Term.{Term, Var}
 use Rattle.mp_term.specs.Terms.{in_scope_of}
 use Rattle.mp_term.proofs.Layers.{in_scope-Var, widest-Var}
-use Rattle.mp_term.specs.Subst.{variables, AreInScope, widest_of, widest_in}
+use Rattle.mp_term.specs.Subst.{variables, AreInScope, widest_of, widest_in, upto}
 use Rattle.mp_term.proofs.SubLaws.{get_or-variables, variables-append}
-use Rattle.mp_schema.specs.Instances.{upto}
-use Rattle.mp_schema.specs.Sequents.{Instance, Spot, ground_at, wide_of}
+use Rattle.mp_schema.specs.Sequents.{Instance, Spot, ground_at}
 use Rattle.mp_logic.specs.Lists.{joined}
 use Rattle.mp_schema.specs.Conditions.{has, has_all}
 use Rattle.mp_build.specs.Sites.{IsSpot, env_at}
-use Rattle.mp_schema.proofs.Ranges.{upto-next}
+use Rattle.mp_term.proofs.Ranges.{upto-next}
 
 pub AreInScope-none : (m : ℕ) → AreInScope m []
 unfolding AreInScope

@@ -1,5 +1,5 @@
 -- The items of a schema: what each asks follows from what they ask together, and what stands behind it.
-use Rattle.std.proofs.Common.{◌≡◌, ℕ, ◌+◌, ◌-◌, ◌<◌, ◌≤◌, ◌^◌, List, [], ◌∷◌, ◌++◌, length, map, get_or, drop, IsTrue, zero, suc, refl, sym, ap, subst, ◌∙◌, inl, inr, append_assoc, append-nil, arith}
+use Rattle.std.proofs.Common.{◌≡◌, ℕ, ◌+◌, ◌<◌, ◌≤◌, ◌^◌, List, [], ◌∷◌, ◌++◌, length, map, get_or, drop, IsTrue, zero, suc, refl, sym, ap, subst, ◌∙◌, inl, inr, append_assoc, append-nil, arith}
 use Rattle.std.specs.Prelude.{All, true, nat_eq, if◌then◌else◌}
 use Rattle.std.proofs.Math.ListN.{drop_of_length-le}
 use Rattle.std.proofs.lemmas.Bool.Decides.{nat_tests}
@@ -16,10 +16,10 @@ use Rattle.mp_schema.specs.declared.schema.Item.{Item}
 use Rattle.mp_schema.specs.declared.schema.Item.TheVariants.{Ctx, Hyp}
 use Rattle.mp_schema.specs.declared.schema.Schema.{Schema}
 use Rattle.mp_schema.specs.Instances.{all_pass}
-use Rattle.mp_schema.specs.Sequents.{Instance, Spot, first_spot, wide_of, hyps_of, behind, hyps_from, behind_all, concl_at, seq, schema_fits}
-use Rattle.mp_schema.specs.Conditions.{below, lists_known, has, has_all, Before, nothing_before, past, all_placed, is_placed}
-use Rattle.mp_build.specs.Rooms.{items_room, schema_room}
-use Rattle.mp_build.specs.Sites.{IsBefore, IsBuildable, IsRowBuildable, IsItemBuildable, AreItemsBuildable, made_at}
+use Rattle.mp_schema.specs.Sequents.{Instance, Spot, first_spot, wide_of, hyps_of, behind, hyps_from, behind_all, concl_at, seq}
+use Rattle.mp_schema.specs.Conditions.{below, lists_known, has, has_all, Before, nothing_before, past, all_placed}
+use Rattle.mp_build.specs.Rooms.{items_room}
+use Rattle.mp_build.specs.Sites.{IsBefore, IsRowBuildable, IsItemBuildable, AreItemsBuildable, made_at}
 use Rattle.mp_build.specs.Sizes.{item_count}
 use Rattle.mp_build.proofs.Buildable.{has-first}
 use Rattle.mp_build.proofs.Placed.{room-ge}
@@ -151,24 +151,6 @@ module _ (v : Instance) where
       let done' = rw next at done in
       subst (λ x. behind_all v (drop (k + 1) items) x ≡ end) (sym moved) done'
 
-  -- the conclusion behind all items
-  pub concl_next : (concl : Pattern) (l : Spot) → AreItemsBuildable v l [] concl → IsBuildable v l l.next concl l.next
-  concl_next concl l r =
-      let placed = r.concl_placed in
-      let closed : IsTrue (below concl r.before.named) = grind (arith, common_steps, placed) in
-      let named = r.stands.named in
-      let e : length l.env + (l.next - l.next) ≡ r.before.named = omega (arith, named) in
-      record {
-        known = r.before.contexts;
-        spot = r.stands.spot;
-        outer = omega arith;
-        inner = omega arith;
-        closed = rw e closed;
-        fitting = r.concl_fitting;
-        listed = grind (arith, common_steps, placed);
-        narrow = r.narrow;
-      }
-
   pub seq_made : (s : Schema) (l : Spot) (k : ℕ) (hyps : List Term) (concl : Term) → length s.items ≤ k → hyps ++ hyps_from v (drop k s.items) l ≡ hyps_from v s.items first_spot →
       behind_all v (drop k s.items) l ≡ behind_all v s.items first_spot → concl ≡ made_at v l l.next s.concl l.next → ◌≡◌ (record { hyps = hyps; concl = concl }) (seq v s)
   seq_made s l k hyps concl h hyps_done moved made =
@@ -191,17 +173,3 @@ module _ (v : Instance) where
       made = λ c h. absurd (cc);
     };
   }
-
-  -- where nothing is made yet
-  pub items_first : (s : Schema) → v.ambient ≡ 0 → IsTrue (is_placed s) → IsTrue (schema_fits v s) → schema_room v s < 2 ^ 31 →
-      AreItemsBuildable v first_spot s.items s.concl
-  items_first s rule placed fitting narrow =
-      record {
-        before = nothing_before;
-        stands = stands-first rule;
-        placed = grind (arith, common_steps, placed);
-        concl_placed = grind (arith, common_steps, placed);
-        fitting = grind (arith, common_steps, fitting);
-        concl_fitting = grind (arith, common_steps, fitting);
-        narrow = narrow;
-      }

@@ -3,13 +3,14 @@ pub mod BindersMade
 pub mod Buildable
 pub mod Grounds
 pub mod Items
+pub mod Laws
 pub mod Layers
-pub mod LimitLayers
 pub mod LimitSteps
 pub mod NarrowLaws
 pub mod Placed
 pub mod Plain
 pub mod RoomFacts
+pub mod RowLists
 pub mod Rows
 pub mod ScopesMade
 pub mod SequentSizes

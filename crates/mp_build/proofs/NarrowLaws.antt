@@ -29,7 +29,7 @@ use Rattle.mp_build.specs.Laws.{IsTameTerm, IsTame, HasTameEntries}
 use Rattle.mp_build.specs.Rooms.{room, room_bound, telescope_room, item_room, items_room, schema_room}
 use Rattle.mp_build.specs.Sizes.{item_count}
 use Rattle.mp_build.proofs.Layers.{room-Var, room-Op, room-Meta, room_bound-is}
-use Rattle.mp_build.proofs.LimitLayers.{few_of-Op, few_of-Meta, few_of_bound-is, pattern_depth-Var, pattern_depth-Op, pattern_depth-Meta, pattern_depth_of_bound-is}
+use Rattle.mp_schema.proofs.Layers.{few_of-Op, few_of-Meta, few_of_bound-is, pattern_depth_of-Var, pattern_depth_of-Op, pattern_depth_of-Meta, pattern_depth_of_bound-is}
 
 -- a tame term widens its scope by 1600 at most
 tame-width : (t : Term) (n : ℕ) → IsTameTerm t → widest_of t n ≤ n + 1600
@@ -52,7 +52,7 @@ module _ (v : Instance) (tame : IsTame v) where
   IsNarrow p = (m : ℕ) → IsTrue (few_of p) → room (wide_of v) v.values p m ≤ m + 14000 * pattern_depth_of p
 
   narrow_var : (i : ℕ) → IsNarrow (pat.Var i)
-  narrow_var i m f = rw (room-Var, pattern_depth-Var) (omega arith)
+  narrow_var i m f = rw (room-Var, pattern_depth_of-Var) (omega arith)
 
   narrow_bounds : (bs : List PBound) (m : ℕ) → OfEachBody IsNarrow bs → IsTrue (all_pass (map few_of_bound bs)) →
       widest_at m (map (room_bound (wide_of v) v.values) bs) ≤ m + 14000 * (1 + greatest (map pattern_depth_of_bound bs))
@@ -74,7 +74,7 @@ module _ (v : Instance) (tame : IsTame v) where
   narrow_op o ps bs h m f =
       let parts = rw few_of-Op at f in
       let bodies : IsTrue (all_pass (map few_of_bound bs)) = grind (arith, common_steps, parts) in
-      rw (room-Op, pattern_depth-Op) (narrow_bounds bs m h bodies)
+      rw (room-Op, pattern_depth_of-Op) (narrow_bounds bs m h bodies)
 
   narrow_args : (args : List Pattern) (m : ℕ) → OfEachArg IsNarrow args → IsTrue (all_pass (map few_of args)) →
       widest_at m (map (room (wide_of v) v.values) args) ≤ m + 14000 * greatest (map pattern_depth_of args)
@@ -95,7 +95,7 @@ module _ (v : Instance) (tame : IsTame v) where
       let before = few-before cs cs_few in
       let value = tame-width (v.values.meta n) (wide_of v cs + length args) (tame.metas n) in
       let rest = narrow_args args m h each in
-      rw (room-Meta, pattern_depth-Meta) (omega (arith, before, value, rest, args_few))
+      rw (room-Meta, pattern_depth_of-Meta) (omega (arith, before, value, rest, args_few))
 
   narrow-pattern : (p : Pattern) → IsNarrow p
   narrow-pattern = each_pattern IsNarrow narrow_var narrow_op narrow_meta

@@ -8,14 +8,13 @@ use Rattle.mp_term.proofs.Layers.{widest-Var, widest-Op}
 use Rattle.mp_term.proofs.SubLaws.{drop-at}
 use Rattle.mp_schema.specs.declared.pattern.Pattern.{Pattern}
 use Rattle.mp_schema.specs.declared.pattern.Pattern as pat
-use Rattle.mp_schema.specs.declared.pattern.ParamPat.{ParamPat}
 use Rattle.mp_schema.specs.declared.pattern.PBound.{PBound}
 use Rattle.mp_schema.specs.declared.schema.Item.{Item}
 use Rattle.mp_schema.specs.declared.schema.Item.TheVariants.{Ctx}
 use Rattle.mp_schema.specs.Instances.{Values, Wide}
 use Rattle.mp_schema.specs.Sequents.{Instance, wide_of}
 use Rattle.mp_build.specs.Rooms.{room, room_bound, IsNarrowSomewhere, telescope_room, item_room}
-use Rattle.mp_build.proofs.Layers.{room-Op, room-Meta, room_bound-is}
+use Rattle.mp_build.proofs.Layers.{room-Meta, room_bound-is}
 
 pub widest_at-ge : (n : ℕ) (ws : List Widths) → n ≤ widest_at n ws
 widest_at-ge n [] = omega arith
@@ -43,10 +42,6 @@ module _ (wide : Wide) (v : Values) where
       let next = drop-at ps i p low is in
       let h' = rw next at h in
       ((m, omega (arith, h')), (m, omega (arith, h')))
-
-  pub narrow_Op : (p : Pattern) (o : Sym) (ps : List ParamPat) (bs : List PBound) → p ≡ pat.Op o ps bs → IsNarrowSomewhere (room wide v p) →
-      IsNarrowSomewhere (λ m. widest_at m (map (room_bound wide v) bs))
-  narrow_Op p o ps bs is (m, h) = (m, rw (is, room-Op) at h)
 
   pub narrow_Meta : (p : Pattern) (n : Sym) (cs : List Sym) (args : List Pattern) → p ≡ pat.Meta n cs args → IsNarrowSomewhere (room wide v p) →
       (wide cs < 2 ^ 31) × IsNarrowSomewhere (λ m. widest_at m (map (room wide v) args))

@@ -6,19 +6,19 @@ use Rattle.mp_logic.specs.declared.sym.Sym.{Sym}
 use Rattle.mp_term.specs.declared.term.Term.{Term, Var}
 use Rattle.mp_term.specs.Terms.{in_scope_of}
 use Rattle.mp_term.specs.Limits.{in_scopes_from}
-use Rattle.mp_term.specs.Subst.{variables, AreInScope, widest_of, widest_at, widest_in}
+use Rattle.mp_term.specs.Subst.{variables, AreInScope, widest_of, widest_at, widest_in, upto}
 use Rattle.mp_term.proofs.Layers.{widest-Var}
 use Rattle.mp_term.proofs.SubLaws.{drop-at, widest_in-ge}
 use Rattle.mp_term.proofs.Laws.{width_after_substitution}
 use Rattle.mp_schema.specs.declared.pattern.Pattern.{Pattern}
-use Rattle.mp_schema.specs.Instances.{inst_of, made_each, upto}
+use Rattle.mp_schema.specs.Instances.{inst_of, made_each}
 use Rattle.mp_schema.specs.Sequents.{Instance, Spot, ground_at, wide_of, telescope}
 use Rattle.mp_schema.specs.Conditions.{has, has_all}
 use Rattle.mp_build.specs.Rooms.{room, telescope_room}
-use Rattle.mp_build.specs.Sites.{IsSpot, IsRowBuildable, IsSubstitutable, AreBuildableArgs, args_at, used_terms, kept_at}
+use Rattle.mp_build.specs.Sites.{IsSpot, IsRowBuildable, IsSubstitutable, args_at, used_terms, kept_at}
 use Rattle.mp_build.proofs.Buildable.{known-of}
 use Rattle.mp_build.proofs.Grounds.{AreInScope-join, widest_in-none, widest_in-cons, variables-are, upto-in}
-use Rattle.mp_schema.proofs.Ranges.{length-upto}
+use Rattle.mp_term.proofs.Ranges.{length-upto}
 use Rattle.mp_build.proofs.Placed.{AreRoomed, terms_placed, used-placed, widest_at-least}
 use Rattle.mp_build.proofs.RoomFacts.{widest-ge}
 use Rattle.mp_build.proofs.TermFacts.{env-here}
@@ -51,23 +51,6 @@ module _ (v : Instance) (l : Spot) (cs : List Sym) (args : List Pattern) where
 
   pub row_contexts : (j : ℕ) (ts : List Term) → IsRowBuildable v l cs args j ts → (c : Sym) → IsTrue (has cs c) → l.pos c + length (v.kept c) ≤ l.next
   row_contexts j ts r c h = r.spot.made c (known-of r.known cs c r.listed h)
-
-  -- the arguments in the scope of hypothesis j
-  pub row_args : (j : ℕ) (ts : List Term) → IsRowBuildable v l cs args j ts → AreBuildableArgs v l (l.next + j) args (l.next + j)
-  row_args j ts r =
-      let narrow = r.narrow in
-      let least = row-least j ts in
-      let e : length l.env ≡ length l.env + (l.next + j - (l.next + j)) = omega arith in
-      record {
-        known = r.known;
-        spot = r.spot;
-        outer = omega arith;
-        inner = omega arith;
-        closed = rw e at r.closed;
-        fitting = r.fitting;
-        listed = r.args_listed;
-        narrow = omega (arith, narrow, least);
-      }
 
   -- the terms that stand for the variables of hypothesis j
   pub row-terms : (j : ℕ) (terms : List Term) →

@@ -12,7 +12,8 @@ use Rattle.mp_schema.specs.declared.pattern.Pattern.{Pattern}
 use Rattle.mp_schema.specs.declared.schema.Item.{Item}
 use Rattle.mp_schema.specs.declared.schema.Item.TheVariants.{Ctx, Hyp}
 use Rattle.mp_schema.specs.declared.schema.Schema.{Schema}
-use Rattle.mp_schema.specs.Instances.{upto, fits, all_pass}
+use Rattle.mp_schema.specs.Instances.{fits, all_pass}
+use Rattle.mp_term.specs.Subst.{upto}
 use Rattle.mp_schema.specs.Sequents.{Instance, Spot, first_spot, ground_at, wide_of, telescope, hyps_of, behind, hyps_from, behind_all, concl_at, seq, item_fits, schema_fits}
 use Rattle.mp_schema.specs.Conditions.{below, lists_known, has_all, Before, nothing_before, past, past_all, each_item, pattern_placed, all_placed, item_placed, is_placed}
 use Rattle.mp_build.specs.Built.{term_of}

@@ -26,7 +26,7 @@ use Rattle.mp_build.specs.Built.{IsChecked}
 use Rattle.mp_build.specs.Sizes.{behind_ones, IsWeighing, inst_size, inst_depth, item_count, item_size, item_depth, schema_count, schema_size, schema_depth}
 use Rattle.mp_build.proofs.Grounds.{variables-are}
 use Rattle.mp_schema.proofs.Rows.{wide-ground}
-use Rattle.mp_schema.proofs.Ranges.{length-upto}
+use Rattle.mp_term.proofs.Ranges.{length-upto}
 use Rattle.mp_build.proofs.Used.{same_size, same_depth}
 use Rattle.mp_build.proofs.Weighed.{size-inst, depth-inst, sizes-terms, depths-terms, sizes-levels, depths-levels}
 

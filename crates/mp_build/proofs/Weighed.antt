@@ -7,14 +7,14 @@ use Rattle.mp_term.specs.declared.term.Term.{Var}
 use Rattle.mp_term.specs.Terms.{size_of, depth_of}
 use Rattle.mp_logic.specs.Lists.{greatest}
 use Rattle.mp_term.proofs.Layers.{size_bound, size-Var, size-Op, size_bound-is, depth_bound, depth-Var, depth-Op, depth_bound-is}
-use Rattle.mp_term.specs.Subst.{variables}
+use Rattle.mp_term.specs.Subst.{variables, upto}
 use Rattle.mp_term.proofs.SizeLaws.{size-sub, depth-sub}
 use Rattle.mp_schema.specs.declared.pattern.ParamPat.{ParamPat}
 use Rattle.mp_schema.specs.declared.pattern.Pattern.{Pattern}
 use Rattle.mp_schema.specs.declared.pattern.Pattern as pat
 use Rattle.mp_schema.specs.declared.pattern.PBound.{PBound}
 use Rattle.mp_schema.specs.Induction.{OfEachBody, OfEachArg, each_pattern}
-use Rattle.mp_schema.specs.Instances.{Values, Ground, Wide, inst_of, inst_bound, made_each, upto}
+use Rattle.mp_schema.specs.Instances.{Values, Ground, Wide, inst_of, inst_bound, made_each}
 use Rattle.mp_schema.proofs.Layers.{inst-Var, inst-Op, inst-Meta, inst_bound-is}
 use Rattle.mp_build.specs.Sizes.{inst_size, inst_size_bound, inst_depth, inst_depth_bound, behind_ones}
 use Rattle.mp_build.proofs.Layers.{inst_size-Var, inst_size-Op, inst_size-Meta, inst_size_bound-is, inst_depth-Var, inst_depth-Op, inst_depth-Meta, inst_depth_bound-is}

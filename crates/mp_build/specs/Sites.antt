@@ -57,6 +57,11 @@ module _ (v : Instance) (l : Spot) (base : ℕ) (t : Term) where
   used_terms level [] m = []
   used_terms level (a ∷ rest) m = (if occurs_in level t then made_at v l base a m else the_blank) ∷ used_terms (level + 1) rest m
 
+-- the items from this place on became these, and the others stay
+abbrev pub AreArgsSet : List Term → ℕ → List Term → List Term → Type 0
+AreArgsSet made first old new =
+    (fore places back : List Term) → old ≡ fore ++ places ++ back → length fore ≡ first → length places ≡ length made → new ≡ fore ++ made ++ back
+
 -- the ambient variables and the named hypotheses are among the hypotheses made, and so are the known contexts' variables
 pub record IsSpot (v : Instance) (l : Spot) (known : List Sym) : Type 0 where
   pub ambient : v.ambient ≤ l.next

@@ -1,7 +1,7 @@
 ghost use Rattle.std.specs.Prelude.{◌≡◌, ℕ, ◌+◌, ◌-◌, ◌<◌, ◌≤◌, ◌^◌, ◌++◌, map, length, IsTrue, IfOk, OnOk, slice_index_or};
 ghost use Rattle.mp_term.specs.declared.term.Term.{Var};
-ghost use Rattle.mp_term.specs.Subst.{sub_of};
-ghost use Rattle.mp_schema.specs.Instances.{param_of, upto};
+ghost use Rattle.mp_term.specs.Subst.{sub_of, variables, upto};
+ghost use Rattle.mp_schema.specs.Instances.{param_of};
 ghost use Rattle.mp_schema.specs.Sequents.{ground_at, wide_of};
 ghost use Rattle.mp_schema.specs.Values.{instance_of, kept_of};
 ghost use Rattle.mp_schema.specs.Conditions.{has};
@@ -12,9 +12,9 @@ use crate::site::{Site, Span, Start};
 use crate::values::kept_count;
 use crate::weights::occurs;
 use mp_logic::{List, NoMemory, Shared, Sym};
-use mp_schema::{Inst, PBound, ParamPat, Pattern, meta_value, param_value};
+use mp_schema::{Inst, PBound, ParamPat, Pattern};
 use mp_subst::substitute;
-use mp_term::{Bound, Param, Term};
+use mp_term::{Bound, Param, Term, copy};
 use std::alloc::Global;
 
 /// The level at which the context begins; 0 where it has no entry.
@@ -59,15 +59,15 @@ fn param_at(param: ParamPat, inst: &Inst) -> Param
 {
     match param {
         ParamPat::Lit(param) => param,
-        ParamPat::Hole(name) => match param_value(&inst.params, name) {
+        ParamPat::Hole(name) => match inst.params.get(name) {
             Some(param) => param,
             None => Param::Num(0),
         },
     }
 }
 
-/// Adds the variables from `first` on.
-pub(crate) fn push_variables(terms: &mut Vec<Term>, first: u32, count: u32) -> Result<(), NoMemory>
+// Adds the variables from `first` on.
+fn push_variables(terms: &mut Vec<Term>, first: u32, count: u32) -> Result<(), NoMemory>
     requires { first + count < 2 ^ 32 }
     ensures { OnOk result (terms.new.items ≡ terms.old.items ++ map Var (upto first count)) }
 {
@@ -128,7 +128,7 @@ pub(crate) fn build_within(
             let value = value_or(inst, *name, &missing);
             let mut terms = variables_before(alloc, inst, site, ctxs.as_slice())?;
             push_args(alloc, args.as_slice(), value, inst, site, span, &mut terms)?;
-            put_in(alloc, value, terms.as_slice(), span.scope)
+            put_or_share(alloc, value, terms.as_slice(), span.scope)
         }
     }
 }
@@ -163,10 +163,10 @@ fn build_bodies(
     Ok(made)
 }
 
-/// Adds the instances of the arguments that stand in the term, the next variable of which is the first argument. For
-/// each other one it adds a term that stands for nothing.
+// Adds the instances of the arguments that stand in the term, the next variable of which is the first argument. For
+// each other one it adds a term that stands for nothing.
 #[cycle(building)]
-pub(crate) fn push_args(
+fn push_args(
     alloc: Global,
     args: &[Pattern],
     t: &Term,
@@ -192,7 +192,7 @@ pub(crate) fn push_args(
 }
 
 // A term that is in every scope.
-fn blank(alloc: Global) -> Result<Term, NoMemory>
+pub(crate) fn blank(alloc: Global) -> Result<Term, NoMemory>
     ensures { IfOk result (λ t. t ≡ the_blank) }
 {
     let subs = Shared::new(alloc, List::new(alloc))?;
@@ -208,10 +208,22 @@ fn value_or<'a>(inst: &'a Inst, name: Sym, missing: &'a Term) -> &'a Term
     requires { missing.now ≡ Var 0 }
     ensures { result.now ≡ (instance_of inst.now).values.meta name }
 {
-    match meta_value(&inst.metas, name) {
+    match inst.metas.get(name) {
         Some(value) => &value.body,
         None => missing,
     }
+}
+
+// The term with these terms, of scope `scope`, for its variables. Where they are the variables themselves it is one more
+// owner of the term.
+fn put_or_share(alloc: Global, t: &Term, terms: &[Term], scope: u32) -> Result<Term, NoMemory>
+    requires { IsSubstitutable t.now terms.now scope }
+    ensures { IfOk result (λ made. made ≡ sub_of t.now terms.now scope) }
+{
+    if are_variables(terms, scope) {
+        return copy(alloc, t);
+    }
+    put_in(alloc, t, terms, scope)
 }
 
 /// The term with these terms, of scope `scope`, for its variables.
@@ -220,4 +232,28 @@ pub(crate) fn put_in(alloc: Global, t: &Term, terms: &[Term], scope: u32) -> Res
     ensures { IfOk result (λ made. made ≡ sub_of t.now terms.now scope) }
 {
     substitute(alloc, t, terms.len() as u32, terms, scope)
+}
+
+/// Whether these are the variables of a scope of `n`, in order.
+pub(crate) fn are_variables(terms: &[Term], n: u32) -> bool
+    ensures { IsTrue result → terms.now ≡ variables 0 n }
+{
+    if terms.len() != n as usize {
+        return false;
+    }
+    for (i, term) in terms.iter().enumerate() {
+        if !is_variable(term, i) {
+            return false;
+        }
+    }
+    true
+}
+
+fn is_variable(t: &Term, level: usize) -> bool
+    ensures { IsTrue result → t.now ≡ Var level }
+{
+    match t {
+        Term::Var(other) => *other as usize == level,
+        Term::Op { .. } => false,
+    }
 }

@@ -12,7 +12,7 @@
 
 mod build;
 mod error;
-mod laws;
+mod law;
 mod limits;
 mod sequent;
 mod site;
@@ -22,6 +22,6 @@ mod values;
 mod weights;
 
 pub use error::BuildErr;
-pub use laws::build_laws;
+pub use law::build_laws;
 pub use sequent::build_sequent;
 pub use term::build_term;

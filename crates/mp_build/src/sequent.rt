@@ -1,19 +1,22 @@
-ghost use Rattle.std.specs.Prelude.{◌≡◌, ◌+◌, ◌++◌, ◌∷◌, [], ◌<◌, ◌^◌, IsTrue, IfOk, OnOk};
+ghost use Rattle.std.specs.Prelude.{◌≡◌, ◌+◌, ◌++◌, ◌∷◌, [], ◌<◌, ◌≤◌, ◌^◌, map, length, IsTrue, IfOk, OnOk, if◌then◌else◌};
+ghost use Rattle.mp_term.specs.declared.term.Term.{Var};
 ghost use Rattle.mp_schema.specs.Conditions.{is_placed};
 ghost use Rattle.mp_schema.specs.Sequents.{seq, schema_fits, telescope, hyps_of, behind, first_spot};
 ghost use Rattle.mp_schema.specs.Values.{instance_of};
 ghost use Rattle.mp_build.specs.Built.{IsBuilt};
 ghost use Rattle.mp_build.specs.Rooms.{schema_room};
-ghost use Rattle.mp_build.specs.Sites.{spot_of, start_of, with_start, kept_at, IsRowBuildable, IsItemBuildable, AreItemsBuildable};
+ghost use Rattle.mp_term.specs.Subst.{occurs_in};
+ghost use Rattle.mp_build.specs.Sites.{spot_of, start_of, with_start, made_at, the_blank, used_terms, AreArgsSet, IsBuildable, AreBuildableArgs, IsRowBuildable, IsItemBuildable, AreItemsBuildable};
 
 use crate::BuildErr;
-use crate::build::{build_within, push_args, push_variables, put_in, variables_before};
+use crate::build::{are_variables, blank, build_within, put_in, variables_before};
 use crate::limits::check_limits;
 use crate::site::{Site, Span, Start};
 use crate::values::kept_count;
+use crate::weights::occurs;
 use mp_logic::{List, NoMemory, Sym};
 use mp_schema::{Inst, Item, Pattern, Schema, context_value};
-use mp_term::{Sequent, Term};
+use mp_term::{Sequent, Term, copy};
 use std::alloc::Global;
 
 /// The sequent that a premise makes of the values of a rule step. The ambient scope must be 0.
@@ -124,7 +127,8 @@ fn pass_context(site: &mut Site, name: Sym, count: u32) -> Result<(), NoMemory>
     Ok(())
 }
 
-// Adds the hypotheses of a context that begins at the place.
+// Adds the hypotheses of a context that begins at the place. One list of terms serves for all of them: each hypothesis
+// adds its variable, and only the arguments are made anew.
 fn push_row(
     alloc: Global,
     kept: &[Term],
@@ -137,8 +141,32 @@ fn push_row(
     requires { IsRowBuildable (instance_of inst.now) (spot_of site.now) ctxs.now args.now 0 kept.now }
     ensures { OnOk result (hyps.new ≡ hyps.old ++ telescope (instance_of inst.now) (spot_of site.now) ctxs.now args.now site.now.next 0 kept.now) }
 {
+    let mut terms = variables_before(alloc, inst, site, ctxs)?;
+    let first = terms.len();
+    if args.is_empty() && are_variables(terms.as_slice(), site.next) {
+        return share_row(alloc, kept, hyps);
+    }
+    push_places(args, &mut terms)?;
     for (j, t) in kept.iter().enumerate() {
-        let hyp = build_kept(alloc, t, j as u32, ctxs, args, inst, site)?;
+        let scope = site.next + j as u32;
+        set_args(alloc, args, t, first, inst, site, scope, &mut terms)?;
+        let hyp = put_in(alloc, t, terms.as_slice(), scope)?;
+        if let Err((_, refused)) = hyps.push(hyp) {
+            return Err(refused);
+        }
+        if terms.push(Term::Var(scope)).is_err() {
+            return Err(NoMemory);
+        }
+    }
+    Ok(())
+}
+
+// Adds the hypotheses of a context in which nothing moves: one more owner of each.
+fn share_row(alloc: Global, kept: &[Term], hyps: &mut List<Term>) -> Result<(), NoMemory>
+    ensures { OnOk result (hyps.new ≡ hyps.old ++ kept.now) }
+{
+    for t in kept {
+        let hyp = copy(alloc, t)?;
         if let Err((_, refused)) = hyps.push(hyp) {
             return Err(refused);
         }
@@ -146,23 +174,57 @@ fn push_row(
     Ok(())
 }
 
-// Hypothesis `j` of a context that begins at the place.
-fn build_kept(
+// Adds a place for each argument. It is set before it is read.
+fn push_places(args: &[Pattern], terms: &mut Vec<Term>) -> Result<(), NoMemory>
+    ensures { OnOk result (terms.new.items ≡ terms.old.items ++ map (λ arg. Var 0) args.now) }
+{
+    for _arg in args {
+        if terms.push(Term::Var(0)).is_err() {
+            return Err(NoMemory);
+        }
+    }
+    Ok(())
+}
+
+// Sets the terms from place `first` on to the instances of the arguments that stand in the term, the first of which has
+// that level, and to a term that stands for nothing for each other one.
+fn set_args(
     alloc: Global,
-    t: &Term,
-    j: u32,
-    ctxs: &[Sym],
     args: &[Pattern],
+    t: &Term,
+    first: usize,
     inst: &Inst,
     site: &Site,
-) -> Result<Term, NoMemory>
-    requires { IsRowBuildable (instance_of inst.now) (spot_of site.now) ctxs.now args.now j (t.now ∷ []) }
-    ensures { IfOk result (λ made. made ≡ kept_at (instance_of inst.now) (spot_of site.now) ctxs.now args.now j t.now) }
+    scope: u32,
+    terms: &mut Vec<Term>,
+) -> Result<(), NoMemory>
+    requires args { AreBuildableArgs (instance_of inst.now) (spot_of site.now) scope args.now scope }
+    requires places { first + length args.now ≤ length terms.old.items }
+    ensures { OnOk result (AreArgsSet (used_terms (instance_of inst.now) (spot_of site.now) scope t.now first args.now scope) first terms.old.items terms.new.items) }
 {
-    let scope = site.next + j;
-    let span = Span { base: scope, scope };
-    let mut terms = variables_before(alloc, inst, site, ctxs)?;
-    push_args(alloc, args, t, inst, site, span, &mut terms)?;
-    push_variables(&mut terms, site.next, j)?;
-    put_in(alloc, t, terms.as_slice(), scope)
+    for (k, arg) in args.iter().enumerate() {
+        let made = build_arg(alloc, arg, t, (first + k) as u64, inst, site, scope)?;
+        terms[first + k] = made;
+    }
+    Ok(())
+}
+
+// The instance of an argument if it stands in the term, where it has this level; else a term that stands for nothing.
+fn build_arg(
+    alloc: Global,
+    arg: &Pattern,
+    t: &Term,
+    level: u64,
+    inst: &Inst,
+    site: &Site,
+    scope: u32,
+) -> Result<Term, NoMemory>
+    requires { IsBuildable (instance_of inst.now) (spot_of site.now) scope arg.now scope }
+    ensures { IfOk result (λ made. made ≡ (if occurs_in level t.now then made_at (instance_of inst.now) (spot_of site.now) scope arg.now scope else the_blank)) }
+{
+    if occurs(t, level) {
+        let span = Span { base: scope, scope };
+        return build_within(alloc, arg, inst, site, span);
+    }
+    blank(alloc)
 }

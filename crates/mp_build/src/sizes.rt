@@ -9,7 +9,7 @@ use crate::BuildErr;
 use crate::values::width_before;
 use crate::weights::{limited, occurs, weigh_under};
 use mp_logic::Sym;
-use mp_schema::{Inst, Pattern, meta_value};
+use mp_schema::{Inst, Pattern};
 use mp_term::{Term, Weight};
 use std::alloc::Global;
 
@@ -35,7 +35,7 @@ pub(crate) fn weigh_pattern(alloc: Global, p: &Pattern, inst: &Inst) -> Result<W
         }
         Pattern::Meta { name, ctxs, args } => {
             let (ctxs, args) = (ctxs.as_slice(), args.as_slice());
-            match meta_value(&inst.metas, *name) {
+            match inst.metas.get(*name) {
                 Some(value) => weigh_applied(alloc, args, ctxs, &value.body, inst),
                 None => weigh_applied(alloc, args, ctxs, &Term::Var(0), inst),
             }

@@ -1,7 +1,6 @@
--- What a sound core answers is valid for the root goal.
-use Rattle.std.proofs.Common.{List}
-use Rattle.mp_logic.specs.Steps as steps
-use Rattle.mp_strategy.specs.declared.tactic.Tac.{Tac}
+-- What a work gives is valid for its goal.
+use Rattle.mp_logic.specs.Meaning.{Meaning}
+use Rattle.mp_strategy.specs.declared.problem.ProblemState.{ProblemState}
 use Rattle.mp_strategy.specs.declared.work.Work.{Work}
 use Rattle.mp_strategy.specs.declared.outcome.Outcome.{Outcome}
 use Rattle.mp_strategy.specs.Laws.{IsSound}
@@ -9,6 +8,5 @@ use Rattle.mp_strategy.specs.Strategies.{Evals}
 use Rattle.mp_strategy.proofs.Sound.{sound_in}
 
 -- an outcome that a work gives is valid for its goal, within its fuel
-pub evals_valid : {G J : Type 0} (step : J → G → steps.Outcome G) (justs : List J) (tacs : List Tac) (work : Work G) (o : Outcome G)
-    → Evals step justs tacs work o → IsSound step justs work.fuel work.goal o
-evals_valid step justs tacs work o h = sound_in step justs 0 tacs work.tac.0 work.left work.fuel work.goal o h
+pub evals_valid : {L G J : Type 0} (meaning : L → Meaning G J) (p : ProblemState L J) (work : Work G) (o : Outcome G) → Evals meaning p work o → IsSound meaning p work o
+evals_valid meaning p work o h = sound_in (meaning p.logic) p.justs 0 p.tacs work.tac.0 work.left work.fuel work.goal o h

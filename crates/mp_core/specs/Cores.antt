@@ -1,7 +1,6 @@
 -- A core: its problem, and the machine that it is.
-use Rattle.std.specs.Prelude.{List}
 use Rattle.mp_strategy.specs.declared.work.Work.{Work}
-use Rattle.mp_strategy.specs.declared.tactic.Tac.{Tac}
+use Rattle.mp_strategy.specs.declared.problem.ProblemState.{ProblemState}
 use Rattle.mp_core.specs.declared.node.Node.{Node}
 use Rattle.mp_core.specs.declared.node.Node.TheVariants as node
 use Rattle.mp_core.specs.declared.state.MachineState.{MachineState}
@@ -10,8 +9,8 @@ use Rattle.mp_core.specs.declared.core_calls.Root.{Root}
 use Rattle.mp_core.specs.declared.core_calls.Root.TheVariants as root
 
 -- the core on this problem whose machine is in this state
-abbrev pub started : {L J G : Type 0} → L → List J → List Tac → MachineState G → CoreState L J G
-started logic justs tacs s = record { logic = logic; justs = justs; tacs = tacs; machine = s }
+abbrev pub started : {L J G : Type 0} → ProblemState L J → MachineState G → CoreState L J G
+started p s = record { problem = p; machine = s }
 
 -- the core with this state of its machine
 abbrev pub moved : {L J G : Type 0} → CoreState L J G → MachineState G → CoreState L J G

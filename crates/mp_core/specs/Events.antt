@@ -1,7 +1,10 @@
 -- What may happen to a core, in any order and as often as it may.
 use Rattle.std.specs.Prelude.{◌≡◌, ℕ, ⊤, List, [], ◌∷◌, Some}
+use Rattle.mp_logic.specs.Meaning.{Meaning}
 use Rattle.mp_strategy.specs.declared.work.Work.{Work}
 use Rattle.mp_strategy.specs.declared.outcome.Outcome.{Outcome}
+use Rattle.mp_strategy.specs.declared.problem.ProblemState.{ProblemState}
+use Rattle.mp_strategy.specs.Strategies.{Evals}
 use Rattle.mp_core.specs.declared.state.MachineState.{MachineState}
 use Rattle.mp_core.specs.declared.state.Parcel.{Parcel}
 use Rattle.mp_core.specs.declared.core_calls.Reported.{Reported}
@@ -45,23 +48,27 @@ module _ {G : Type 0} (evals : Work G → Outcome G → Type 0) where
   AllHonest (e ∷ es) = IsHonest e × AllHonest es
 
   -- a call on a sound state leaves a sound one
-  abbrev pub CallsKeepSound : (Work G → Type 0) → Type 0
-  CallsKeepSound is_work = (s : MachineState G) (e : Event G) (new : MachineState G) → IsHonest e → Steps s e new → IsSoundState is_work evals s → IsSoundState is_work evals new
-
-  -- a call on a state of good shape leaves one
-  abbrev pub CallsKeepShape : (Work G → Type 0) → Type 0
-  CallsKeepShape is_work = (s : MachineState G) (e : Event G) (new : MachineState G) → IsHonest e → Steps s e new → HasShape is_work s → HasShape is_work new
+  abbrev pub CallsKeepSound : Type 0
+  CallsKeepSound = (s : MachineState G) (e : Event G) (new : MachineState G) → IsHonest e → Steps s e new → IsSoundState evals s → IsSoundState evals new
 
   -- a call makes no outcome possible that wasn't
-  abbrev pub CallsYieldNoMore : (Work G → Type 0) → Type 0
-  CallsYieldNoMore is_work = (s : MachineState G) (e : Event G) (new : MachineState G) → IsHonest e → Steps s e new → HasShape is_work s
-      → (o : Outcome G) → Yields evals new.node o → Yields evals s.node o
+  abbrev pub CallsYieldNoMore : Type 0
+  CallsYieldNoMore = (s : MachineState G) (e : Event G) (new : MachineState G) → IsHonest e → Steps s e new → (o : Outcome G) → Yields evals new.node o → Yields evals s.node o
 
   -- from the start of a work, whatever happens, each state is sound
-  abbrev pub RunsStaySound : (Work G → Type 0) → Work G → Type 0
-  RunsStaySound is_work work = (es : List (Event G)) (end : MachineState G) → AllHonest es → Runs (opening work) es end → IsSoundState is_work evals end
+  abbrev pub RunsStaySound : Work G → Type 0
+  RunsStaySound work = (es : List (Event G)) (end : MachineState G) → AllHonest es → Runs (opening work) es end → IsSoundState evals end
 
   -- from the start of a work, whatever happens, an answer is an outcome that the work gives
   abbrev pub RunsAnswerTruly : Work G → Type 0
   RunsAnswerTruly work = (es : List (Event G)) (end : MachineState G) → AllHonest es → Runs (opening work) es end
       → (o : Outcome G) → answer_of end ≡ Some o → evals work o
+
+module _ {L G J : Type 0} (meaning : L → Meaning G J) (p : ProblemState L J) where
+  -- a call on a state of a core's shape leaves one
+  abbrev pub CallsKeepShape : Type 0
+  CallsKeepShape = (s : MachineState G) (e : Event G) (new : MachineState G) → IsHonest (Evals meaning p) e → Steps s e new → HasShape meaning p s → HasShape meaning p new
+
+  -- from the start of a work, whatever happens, each state has a core's shape
+  abbrev pub RunsKeepShape : Work G → Type 0
+  RunsKeepShape work = (es : List (Event G)) (end : MachineState G) → AllHonest (Evals meaning p) es → Runs (opening work) es end → HasShape meaning p end

@@ -4,7 +4,7 @@ ghost use Rattle.mp_core.specs.Machine.{opening, claimed_by, reissued, next_for,
 ghost use Rattle.mp_core.specs.Nodes.{claim_by};
 ghost use Rattle.mp_core.specs.Cores.{moved, started};
 ghost use Rattle.mp_core.specs.Sound.{IsSoundCore, TicketHas};
-ghost use Rattle.mp_strategy.specs.Laws.{IsSound};
+ghost use Rattle.mp_strategy.specs.Laws.{IsSound, IsGood};
 ghost use Rattle.mp_strategy.specs.Strategies.{Evals};
 ghost use Rattle.mp_strategy.specs.Works.{IsWork};
 
@@ -51,7 +51,8 @@ pub(crate) enum Root<G> {
 }
 
 /// The job of a root work, handed out to one worker at a time. Contracts see its problem and the state
-/// of the machine that it is.
+/// of the machine that it is, which has the shape of a core's: each work in it may be given to calls, each goal of an
+/// outcome in it is good, and no epoch stands in two of its leaves.
 #[derive(Drop)]
 pub struct Core<'p, L: Logic> {
     problem: &'p Problem<'p, L>,
@@ -65,20 +66,23 @@ impl<'p, L: Logic> Model for Core<'p, L> {
     ghost use Rattle.mp_core.specs.contracts.state.CoreState as core_state;
     ghost use borrow.Follows.Maybe.{bare};
     ghost use Rattle.mp_core.specs.Cores.{node_at};
+    ghost use Rattle.mp_core.specs.Sound.{HasShape};
 
     ghost Value = { CoreState L L.Just L.Goal };
 
     ghost coded = { (core_state.the_row (bare L L.code) (bare L.Just L.Just.code) (bare L.Goal L.Goal.code)).coded };
 
-    ghost view = { λ c. record { logic = c.problem.now.logic.now; justs = c.problem.now.justs; tacs = c.problem.now.tacs; machine = record { work = c.work; node = node_at c.root c.work; drawn = c.drawn } } };
+    ghost view = { λ c. record { problem = c.problem.now; machine = record { work = c.work; node = node_at c.root c.work; drawn = c.drawn } } };
+
+    ghost invariant = { λ c. HasShape L.meaning c.problem.now (record { work = c.work; node = node_at c.root c.work; drawn = c.drawn }) };
 }
 
 impl<'p, L: Logic> Core<'p, L> {
     /// A core whose root is to do, and of which no epoch was drawn. It takes no memory.
     pub fn start(problem: &'p Problem<'p, L>, work: Work<L::Goal>) -> Result<Core<'p, L>, NoMemory>
-        requires work { IsWork (L.good problem.now.logic.now) problem.now.tacs work }
-        ensures started { MatchResult result (λ core. core ≡ started problem.now.logic.now problem.now.justs problem.now.tacs (opening work)) (λ _. ⊥) }
-        ensures sound { IfOk result (IsSoundCore L.good L.step_of) }
+        requires work { IsWork L.meaning problem.now work }
+        ensures started { MatchResult result (λ core. core ≡ started problem.now (opening work)) (λ _. ⊥) }
+        ensures sound { IfOk result (IsSoundCore L.meaning) }
     {
         Ok(Core {
             problem,
@@ -96,7 +100,8 @@ impl<'p, L: Logic> Core<'p, L> {
         if self.drawn == u64::MAX {
             return Ok(Claimed::Spent);
         }
-        let work = copy_work(alloc, self.problem.logic, &self.work)?;
+        let problem = self.problem;
+        let work = copy_work(alloc, problem.logic, &self.work)?;
         self.drawn += 1;
         self.root = Root::Claimed {
             epoch: self.drawn,
@@ -114,8 +119,8 @@ impl<'p, L: Logic> Core<'p, L> {
     pub fn claim(&mut self, alloc: Global, who: u32) -> Result<Claimed<L::Goal>, NoMemory>
         ensures reply { IfOk result (λ r. r ≡ (claimed_by self.old.machine who).0) }
         ensures state { MatchResult result (λ _. self.new ≡ moved self.old (claimed_by self.old.machine who).1) (λ _. self.new ≡ self.old) }
-        ensures sound { IsSoundCore L.good L.step_of self.old → IsSoundCore L.good L.step_of self.new }
-        ensures work { IsSoundCore L.good L.step_of self.old → IfOk result (TicketHas (IsWork (L.good self.old.logic) self.old.tacs)) }
+        ensures sound { IsSoundCore L.meaning self.old → IsSoundCore L.meaning self.new }
+        ensures work { IfOk result (TicketHas (IsWork L.meaning self.old.problem)) }
     {
         match &self.root {
             Root::Todo => self.issue(alloc, who),
@@ -130,8 +135,8 @@ impl<'p, L: Logic> Core<'p, L> {
     pub fn reissue(&mut self, alloc: Global) -> Result<Claimed<L::Goal>, NoMemory>
         ensures reply { IfOk result (λ r. r ≡ (reissued self.old.machine).0) }
         ensures state { MatchResult result (λ _. self.new ≡ moved self.old (reissued self.old.machine).1) (λ _. self.new ≡ self.old) }
-        ensures sound { IsSoundCore L.good L.step_of self.old → IsSoundCore L.good L.step_of self.new }
-        ensures work { IsSoundCore L.good L.step_of self.old → IfOk result (TicketHas (IsWork (L.good self.old.logic) self.old.tacs)) }
+        ensures sound { IsSoundCore L.meaning self.old → IsSoundCore L.meaning self.new }
+        ensures work { IfOk result (TicketHas (IsWork L.meaning self.old.problem)) }
     {
         match &self.root {
             Root::Todo => Ok(Claimed::Nothing),
@@ -146,8 +151,8 @@ impl<'p, L: Logic> Core<'p, L> {
         ensures reply { IfOk result (λ r. r ≡ (next_for self.old.machine).0) }
         ensures state { MatchResult result (λ _. self.new ≡ moved self.old (next_for self.old.machine).1) (λ _. self.new ≡ self.old) }
         ensures never_nothing { IfOk result (λ r. r ≢ Claimed.Nothing) }
-        ensures sound { IsSoundCore L.good L.step_of self.old → IsSoundCore L.good L.step_of self.new }
-        ensures work { IsSoundCore L.good L.step_of self.old → IfOk result (TicketHas (IsWork (L.good self.old.logic) self.old.tacs)) }
+        ensures sound { IsSoundCore L.meaning self.old → IsSoundCore L.meaning self.new }
+        ensures work { IfOk result (TicketHas (IsWork L.meaning self.old.problem)) }
     {
         match self.claim(alloc, 0)? {
             Claimed::Nothing => self.reissue(alloc),
@@ -159,15 +164,17 @@ impl<'p, L: Logic> Core<'p, L> {
     /// settled: the job is done then, with the parcel's outcome. Else the parcel is Stale and comes back, and
     /// nothing changes but for those settlements, of which a core of one job has none. It takes no memory.
     pub fn report(&mut self, parcel: Parcel<L::Goal>) -> Reported<L::Goal>
-        requires { Evals (L.step_of self.old.logic) self.old.justs self.old.tacs parcel.work parcel.outcome }
+        requires { Evals L.meaning self.old.problem parcel.work parcel.outcome }
         ensures state { self.new ≡ moved self.old self.new.machine }
         ensures reply { Reports self.old.machine parcel result self.new.machine }
-        ensures sound { IsSoundCore L.good L.step_of self.old → IsSoundCore L.good L.step_of self.new }
+        ensures sound { IsSoundCore L.meaning self.old → IsSoundCore L.meaning self.new }
     {
+        let problem = self.problem;
+        problem.known();
         let Root::Claimed { epoch, .. } = &self.root else {
             return Reported::Stale(parcel);
         };
-        if *epoch != parcel.epoch || !same_work(self.problem.logic, &parcel.work, &self.work) {
+        if *epoch != parcel.epoch || !same_work(problem.logic, &parcel.work, &self.work) {
             return Reported::Stale(parcel);
         }
         self.root = Root::Done(parcel.outcome);
@@ -179,7 +186,7 @@ impl<'p, L: Logic> Core<'p, L> {
         requires { 0 < who }
         ensures reply { result ≡ (lost_by self.old.machine who).0 }
         ensures state { self.new ≡ moved self.old (lost_by self.old.machine who).1 }
-        ensures sound { IsSoundCore L.good L.step_of self.old → IsSoundCore L.good L.step_of self.new }
+        ensures sound { IsSoundCore L.meaning self.old → IsSoundCore L.meaning self.new }
     {
         match &self.root {
             Root::Claimed { who: holder, .. } if *holder == who => {
@@ -193,8 +200,9 @@ impl<'p, L: Logic> Core<'p, L> {
     /// The root's outcome: Some exactly where the root is done.
     pub fn answer(&self) -> Option<&Outcome<L::Goal>>
         ensures answer { option_copied result ≡ answer_of self.now.machine }
-        ensures sound { IsSoundCore L.good L.step_of self.now → IfSome result (λ o. Evals (L.step_of self.now.logic) self.now.justs self.now.tacs self.now.machine.work o.now) }
-        ensures valid { IsSoundCore L.good L.step_of self.now → IfSome result (λ o. IsSound (L.step_of self.now.logic) self.now.justs self.now.machine.work.fuel self.now.machine.work.goal o.now) }
+        ensures sound { IsSoundCore L.meaning self.now → IfSome result (λ o. Evals L.meaning self.now.problem self.now.machine.work o.now) }
+        ensures valid { IsSoundCore L.meaning self.now → IfSome result (λ o. IsSound L.meaning self.now.problem self.now.machine.work o.now) }
+        ensures good { IfSome result (λ o. IsGood (L.meaning self.now.problem.logic) o.now) }
     {
         match &self.root {
             Root::Done(outcome) => Some(outcome),
@@ -202,16 +210,31 @@ impl<'p, L: Logic> Core<'p, L> {
         }
     }
 
+    /// The root's outcome, with nothing copied: Some exactly where the root is done.
+    pub fn into_answer(self) -> Option<Outcome<L::Goal>>
+        ensures answer { result ≡ answer_of self.entry.machine }
+        ensures sound { IsSoundCore L.meaning self.entry → IfSome result (λ o. Evals L.meaning self.entry.problem self.entry.machine.work o) }
+        ensures valid { IsSoundCore L.meaning self.entry → IfSome result (λ o. IsSound L.meaning self.entry.problem self.entry.machine.work o) }
+        ensures good { IfSome result (λ o. IsGood (L.meaning self.entry.problem.logic) o) }
+    {
+        let Core { root, .. } = self;
+        match root {
+            Root::Done(outcome) => Some(outcome),
+            _ => None,
+        }
+    }
+
     /// The problem that the core was started on.
     pub fn problem(&self) -> &'p Problem<'p, L>
-        ensures { self.now ≡ started result.now.logic.now result.now.justs result.now.tacs self.now.machine }
+        ensures { result.now ≡ self.now.problem }
     {
         self.problem
     }
 
     /// The root work.
     pub fn work(&self) -> &Work<L::Goal>
-        ensures { result.now ≡ self.now.machine.work }
+        ensures value { result.now ≡ self.now.machine.work }
+        ensures fits { IsWork L.meaning self.now.problem result.now }
     {
         &self.work
     }

@@ -1,6 +1,5 @@
 use crate::node::Node;
-use mp_logic::List;
-use mp_strategy::{Outcome, Tac, Work};
+use mp_strategy::{Outcome, ProblemState, Work};
 
 /// A job that was handed out: its work, and the epoch under which it is claimed, which no other ticket
 /// of the core has.
@@ -28,10 +27,8 @@ pub struct MachineState<G> {
     pub drawn: u64,
 }
 
-/// A core, as contracts see it: the problem's parts, and the machine's state. No value of it is made.
+/// A core, as contracts see it: its problem, and the machine's state. No value of it is made.
 pub struct CoreState<L, J, G> {
-    pub logic: L,
-    pub justs: List<J>,
-    pub tacs: List<Tac>,
+    pub problem: ProblemState<L, J>,
     pub machine: MachineState<G>,
 }

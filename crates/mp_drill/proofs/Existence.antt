@@ -1,7 +1,8 @@
 -- Each schedule has a trace, and it ends with what the root work evaluates to.
-use Rattle.std.proofs.Common.{◌≡◌, ℕ, ◌+◌, ◌==◌, ◌⊎◌, Bool, true, false, List, [], ◌∷◌, Some, None, slice_set, refl, sym, subst, inl, inr, if◌then◌else◌}
+use Rattle.std.proofs.Common.{◌≡◌, ℕ, ◌+◌, ◌==◌, ◌⊎◌, Bool, true, false, List, [], ◌∷◌, Some, None, slice_set, refl, sym, ap, subst, ◌∙◌, inl, inr, true≢false, if◌then◌else◌}
 use Rattle.std.specs.declared.option.Option.{Option}
 use Rattle.std.proofs.lemmas.Bool.{cases_eq}
+use Rattle.mp_logic.specs.Meaning.{Meaning, IsLogic}
 use Rattle.mp_strategy.specs.declared.work.Work.{Work}
 use Rattle.mp_strategy.specs.declared.outcome.Outcome.{Outcome}
 use Rattle.mp_core.specs.declared.node.Node.{Node}
@@ -28,6 +29,27 @@ decide_both : {P Q : Type 0} → P ⊎ (P → ⊥) → Q ⊎ (Q → ⊥) → (P 
 decide_both (inl p) (inl q) = inl (p, q)
 decide_both (inl p) (inr not) = inr (λ h. not h.1)
 decide_both (inr not) q = inr (λ h. not h.0)
+
+-- goals that can be compared make works that can
+module _ {G J : Type 0} (m : Meaning G J) (lawful : IsLogic m) where
+  by_test : (a b : G) (test : Bool) → m.same a b ≡ test → (a ≡ b) ⊎ ((a ≡ b) → ⊥)
+  by_test a b true e = inl ((lawful.same_is a b).0 e)
+  by_test a b false e = inr (λ h. true≢false (sym ((lawful.same_is a b).1 h) ∙ e))
+
+  same_fields : (number left fuel : ℕ) (goal : G) (b : Work G) → number ≡ b.tac.0 → left ≡ b.left → fuel ≡ b.fuel → goal ≡ b.goal
+      → ◌≡◌ {A = Work G} (record { tac = record { 0 = number }; left = left; fuel = fuel; goal = goal }) b
+  same_fields number left fuel goal b e f g h = rw (e, f, g, h) refl
+
+  by_fields : (a b : Work G) → (a.tac.0 ≡ b.tac.0) ⊎ (a.tac.0 ≡ b.tac.0 → ⊥) → (a.left ≡ b.left) ⊎ (a.left ≡ b.left → ⊥) → (a.fuel ≡ b.fuel) ⊎ (a.fuel ≡ b.fuel → ⊥)
+      → (a.goal ≡ b.goal) ⊎ (a.goal ≡ b.goal → ⊥) → (a ≡ b) ⊎ ((a ≡ b) → ⊥)
+  by_fields a b (inl e) (inl f) (inl g) (inl h) = inl (same_fields a.tac.0 a.left a.fuel a.goal b e f g h)
+  by_fields a b (inl e) (inl f) (inl g) (inr not) = inr (λ s. not (ap (λ (w : Work G). w.goal) s))
+  by_fields a b (inl e) (inl f) (inr not) d = inr (λ s. not (ap (λ (w : Work G). w.fuel) s))
+  by_fields a b (inl e) (inr not) c d = inr (λ s. not (ap (λ (w : Work G). w.left) s))
+  by_fields a b (inr not) n c d = inr (λ s. not (ap (λ (w : Work G). w.tac.0) s))
+
+  pub decide_work : (a b : Work G) → (a ≡ b) ⊎ ((a ≡ b) → ⊥)
+  decide_work a b = by_fields a b (cases_eq a.tac.0 b.tac.0) (cases_eq a.left b.left) (cases_eq a.fuel b.fuel) (by_test a.goal b.goal (m.same a.goal b.goal) refl)
 
 module _ {G : Type 0} (eval : Work G → Outcome G) (decide : (a b : Work G) → (a ≡ b) ⊎ ((a ≡ b) → ⊥)) where
   -- a job is claimed under the epoch with this work, or none is

@@ -1,6 +1,5 @@
 pub mod Existence
 pub mod FirstSections
-pub mod OneSchedule
 pub mod Outcomes
 pub mod Rounding
 pub mod ScheduleFaults

@@ -1,6 +1,5 @@
 -- Whatever the schedule, a trace ends with what the root work evaluates to.
 use Rattle.std.proofs.Common.{◌≡◌, ℕ, suc, List, [], ◌∷◌, Some, None, length, All, IfSome, refl, sym, subst, ap, ◌∙◌, inl, inr}
-use Rattle.std.specs.Prelude.{⊤}
 use Rattle.std.specs.declared.option.Option.{Option}
 use Rattle.std.proofs.lemmas.Bool.{cases_lt}
 use Rattle.std.proofs.lemmas.List.{get_or_past}
@@ -31,11 +30,8 @@ module _ {G : Type 0} (eval : Work G → Outcome G) where
   abbrev Same : Work G → Outcome G → Type 0
   Same w o = o ≡ eval w
 
-  abbrev Any : Work G → Type 0
-  Any w = ⊤
-
   abbrev SoundAt : MachineState G → Type 0
-  SoundAt = IsSoundState Any Same
+  SoundAt = IsSoundState Same
 
   abbrev Honest : Worker G → Type 0
   Honest w = IfSome w.last (λ p. p.outcome ≡ eval p.work)
@@ -46,15 +42,15 @@ module _ {G : Type 0} (eval : Work G → Outcome G) where
     pub same : new.work ≡ s.work
 
   later_by : (s : MachineState G) (c : Call G) (new : MachineState G) → IsHonest Same c → Steps s c new → SoundAt s → Later s new
-  later_by s c new honest step h = record { sound = step_keeps Any Same s c new honest step h; same = step_same s c new step }
+  later_by s c new honest step h = record { sound = step_keeps Same s c new honest step h; same = step_same s c new step }
 
   later_report : (s : MachineState G) (p : Parcel G) (r : Reported G) (new : MachineState G) → p.outcome ≡ eval p.work → Reports s p r new → SoundAt s → Later s new
-  later_report s p r new honest h sound = record { sound = report_keeps Any Same s p r new honest h sound; same = report_same s p r new h }
+  later_report s p r new honest h sound = record { sound = report_keeps Same s p r new honest h sound; same = report_same s p r new h }
 
   rounds_give : (s : MachineState G) (o : Outcome G) → Rounds eval s o → SoundAt s → o ≡ eval s.work
   rounds_give s o (finished _ _ f a) h =
       let next = later_by s NextForCaller (next_for s).1 tt refl h in
-      answer_true Any Same (next_for s).1 o next.sound a ∙ ap eval next.same
+      answer_true Same (next_for s).1 o next.sound a ∙ ap eval next.same
   rounds_give s o (spent _ e) h = refl
   rounds_give s o (round _ t reply new _ e r rest) h =
       let next = later_by s NextForCaller (next_for s).1 tt refl h in
@@ -127,7 +123,7 @@ module _ {G : Type 0} (eval : Work G → Outcome G) where
   replies_good work w (e ∷ es) [] end good h = absurd h
 
   pub first_good : (work : Work G) → Good work (first_world work)
-  first_good work = record { machine = opening_sound Any Same work tt; same = refl; workers = All-replicate Honest 65 idle tt }
+  first_good work = record { machine = opening_sound Same work; same = refl; workers = All-replicate Honest 65 idle tt }
 
   pub trace_gives_eval : (work : Work G) (es : List Event) (rs : List Reply) (o : Outcome G) → IsTrace eval work es rs o → o ≡ eval work
   trace_gives_eval work es rs o h =

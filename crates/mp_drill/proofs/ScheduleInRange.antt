@@ -5,13 +5,15 @@ use Rattle.std.specs.List.{flat_map}
 use Rattle.std.proofs.lemmas.Bool.{and_parts, and_from}
 use Rattle.mp_logic.specs.declared.sym.Sym.{Sym}
 use Rattle.mp_words.specs.declared.raw.RawNumber.{RawNumber}
+use Rattle.mp_words.specs.declared.fail.TextWhy.TheVariants as why
 use Rattle.mp_words.specs.Ranges.{number_faults}
+use Rattle.mp_words.specs.Seconds.{second_faults}
 use Rattle.mp_words.proofs.NoFaults.{nil_parts, number_between}
 use Rattle.mp_drill.specs.declared.raw.RawEvent.{RawEvent}
 use Rattle.mp_drill.specs.declared.raw.RawEvent.TheVariants as event
 use Rattle.mp_drill.specs.declared.raw.RawSection.{RawSection}
 use Rattle.mp_drill.specs.Ranges.{is_in_range, are_in_range}
-use Rattle.mp_drill.specs.ScheduleStatics.{units_faults, event_faults, events_faults, name_faults, sections_faults}
+use Rattle.mp_drill.specs.ScheduleStatics.{units_faults, event_faults, events_faults, goal_faults, schedule_faults, section_faults}
 use Rattle.mp_drill.specs.ScheduleValues.{units_of, event_of, schedule_of, EachInRange}
 
 worker_in_range : (n : RawNumber) → number_faults 0 64 n ≡ [] → nat_le (nat_abs n.value) 64 ≡ true
@@ -36,18 +38,19 @@ events_in_range (e ∷ es) h = let both = nil_parts (event_faults e) (events_fau
 
 -- the parts of what has no fault have none
 module _ (goals : List Sym) where
-  parts : (taken : List Sym) (s : RawSection) (ss : List RawSection) → sections_faults goals taken (s ∷ ss) ≡ [] → (events_faults s.events ≡ []) × (sections_faults goals (taken ++ s.goal.name ∷ []) ss ≡ [])
-  parts taken s ss h =
-      let rest = sections_faults goals (taken ++ s.goal.name ∷ []) ss in
-      let both = nil_parts (name_faults goals taken s.goal ++ events_faults s.events) rest h in
-      ((nil_parts (name_faults goals taken s.goal) (events_faults s.events) both.0).1, both.1)
+  each_faultless : (ss : List RawSection) → flat_map (section_faults goals) ss ≡ [] → flat_map (λ s. events_faults s.events) ss ≡ []
+  each_faultless [] h = refl
+  each_faultless (s ∷ ss) h =
+      let both = nil_parts (section_faults goals s) (flat_map (section_faults goals) ss) h in
+      ap (λ fs. fs ++ flat_map (λ x. events_faults x.events) ss) (nil_parts (goal_faults goals s.goal) (events_faults s.events) both.0).1 ∙ each_faultless ss both.1
 
-  pub no_event_fault : (taken : List Sym) (ss : List RawSection) → sections_faults goals taken ss ≡ [] → flat_map (λ s. events_faults s.events) ss ≡ []
-  no_event_fault taken [] h = refl
-  no_event_fault taken (s ∷ ss) h =
-      let both = parts taken s ss h in ap (λ fs. fs ++ flat_map (λ x. events_faults x.events) ss) both.0 ∙ no_event_fault (taken ++ s.goal.name ∷ []) ss both.1
+  pub no_event_fault : (ss : List RawSection) → schedule_faults goals ss ≡ [] → flat_map (λ s. events_faults s.events) ss ≡ []
+  no_event_fault ss h = each_faultless ss (nil_parts (second_faults (λ (s : RawSection). s.goal) why.Taken ss) (flat_map (section_faults goals) ss) h).1
 
-  pub sections_in_range : (taken : List Sym) (ss : List RawSection) → sections_faults goals taken ss ≡ [] → EachInRange (schedule_of ss)
-  sections_in_range taken [] h = tt
-  sections_in_range taken (s ∷ ss) h =
-      let both = parts taken s ss h in (events_in_range s.events both.0, sections_in_range (taken ++ s.goal.name ∷ []) ss both.1)
+each_in_range : (ss : List RawSection) → flat_map (λ s. events_faults s.events) ss ≡ [] → EachInRange (schedule_of ss)
+each_in_range [] h = tt
+each_in_range (s ∷ ss) h =
+    let both = nil_parts (events_faults s.events) (flat_map (λ x. events_faults x.events) ss) h in (events_in_range s.events both.0, each_in_range ss both.1)
+
+pub sections_in_range : (goals : List Sym) (ss : List RawSection) → schedule_faults goals ss ≡ [] → EachInRange (schedule_of ss)
+sections_in_range goals ss h = each_in_range ss (no_event_fault goals ss h)

@@ -1,7 +1,7 @@
 -- What a drill keeps while it runs.
-use Rattle.std.specs.Prelude.{◌≡◌, Bool, List, length, All, IfSome}
+use Rattle.std.specs.Prelude.{◌≡◌, List, length, All, IfSome}
 use Rattle.mp_drill.specs.declared.limits.TheConstants.{WORKERS}
-use Rattle.mp_logic.specs.Steps as steps
+use Rattle.mp_logic.specs.Meaning.{Meaning}
 use Rattle.mp_strategy.specs.declared.work.Work.{Work}
 use Rattle.mp_strategy.specs.declared.outcome.Outcome.{Outcome}
 use Rattle.mp_strategy.specs.Works.{IsWork}
@@ -15,7 +15,7 @@ abbrev pub IsTrueWorker : {G : Type 0} → (Work G → Type 0) → (Work G → O
 IsTrueWorker is_work evals w = IfSome w.hand (λ t. is_work t.work) × IfSome w.last (λ p. evals p.work p.outcome)
 
 -- the core is sound, and there are workers 0 to 64, each of them true
-pub record IsReady {L J G : Type 0} (good : L → G → Bool) (step : L → J → G → steps.Outcome G) (core : CoreState L J G) (workers : List (Worker G)) : Type 0 where
-  pub sound : IsSoundCore good step core
+pub record IsReady {L G J : Type 0} (meaning : L → Meaning G J) (core : CoreState L J G) (workers : List (Worker G)) : Type 0 where
+  pub sound : IsSoundCore meaning core
   pub count : length workers ≡ WORKERS
-  pub workers_true : All (IsTrueWorker (IsWork (good core.logic) core.tacs) (Evals (step core.logic) core.justs core.tacs)) workers
+  pub workers_true : All (IsTrueWorker (IsWork meaning core.problem) (Evals meaning core.problem)) workers

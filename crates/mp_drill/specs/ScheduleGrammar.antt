@@ -1,73 +1,65 @@
 -- The grammar of schedules, over words.
 --   schedule = section*     section = "goal" Small event*
 --   event = "claim" Num | "send" Num Num? | "again" Num | "die" Num | "lose" Num | "reissue"
-use Rattle.std.specs.Prelude.{◌≡◌, ◌⊎◌, List, ◌∷◌, Option, Some, Bool, true, false, ◌||◌}
+use Rattle.std.specs.Prelude.{List, [], ◌∷◌, Option, Bool, false, ◌||◌}
 use Rattle.mp_words.specs.declared.word.Word.{Word}
-use Rattle.mp_words.specs.declared.word.Word.TheVariants as word
-use Rattle.mp_words.specs.declared.word.Keyword.{Keyword}
 use Rattle.mp_words.specs.declared.word.Keyword.TheVariants as keyword
+use Rattle.mp_words.specs.declared.raw.RawName.{RawName}
 use Rattle.mp_words.specs.declared.raw.RawNumber.{RawNumber}
-use Rattle.mp_words.specs.Parts.{IsWord, IsNumberAt, IsNameBehind, StuckNameBehind, Lacks, Both, StuckBoth, After, StuckOptional, IfThere, Repeated, StuckRepeated, Many, StuckMany}
+use Rattle.mp_words.specs.Grammars.{Grammar, Is, Stuck, both, forms, fronted, if_there, made, many, nothing, repeated}
+use Rattle.mp_words.specs.Fronts.{a_number, is_word, name_behind, number_at}
 use Rattle.mp_drill.specs.declared.raw.RawEvent.{RawEvent}
-use Rattle.mp_drill.specs.declared.raw.RawEvent.TheVariants as event
+use Rattle.mp_drill.specs.declared.raw.RawEvent.TheVariants as raw
 use Rattle.mp_drill.specs.declared.raw.RawSection.{RawSection}
 
--- the word of an event that has a worker
-abbrev pub has_worker : Keyword → Bool
-has_worker keyword.Claim = true
-has_worker keyword.Send = true
-has_worker keyword.Again = true
-has_worker keyword.Die = true
-has_worker keyword.Lose = true
-has_worker other = false
+-- what a worker sends, of the worker and the units, if those are written
+abbrev pub send_of : RawNumber × Option RawNumber → RawEvent
+send_of (who, units) = raw.Send who units
 
--- the word of the event that has no worker
-abbrev pub is_reissue : Keyword → Bool
-is_reissue keyword.Reissue = true
-is_reissue other = false
+-- a word that begins an event, and the event behind that word
+abbrev pub EventForm : Type 0
+EventForm = (Word → Bool) × (Grammar Word RawEvent)
 
--- the word of an event
-abbrev pub is_event_word : Keyword → Bool
-is_event_word k = has_worker k || is_reissue k
+-- "claim" Num | "send" Num Num? | "again" Num | "die" Num | "lose" Num | "reissue"
+abbrev pub event_forms : List EventForm
+event_forms =
+    (is_word keyword.Claim, made raw.Claim a_number)
+    ∷ (is_word keyword.Send, made send_of (both a_number (if_there number_at)))
+    ∷ (is_word keyword.Again, made raw.Again a_number)
+    ∷ (is_word keyword.Die, made raw.Die a_number)
+    ∷ (is_word keyword.Lose, made raw.Lose a_number)
+    ∷ (is_word keyword.Reissue, nothing raw.Reissue)
+    ∷ []
+
+-- one of these words stands in front
+abbrev pub begins_one : List EventForm → List Word → Bool
+begins_one [] ts = false
+begins_one (form ∷ others) ts = fronted form.0 ts || begins_one others ts
 
 -- the word in front begins an event
 abbrev pub begins_event : List Word → Bool
-begins_event (word.Small name (Some k) ∷ rest) = is_event_word k
-begins_event other = false
+begins_event = begins_one event_forms
 
--- a worker, and units if a second number stands there
-abbrev pub IsSend : RawNumber × Option RawNumber → List Word → List Word → Type 0
-IsSend = Both IsNumberAt (IfThere IsNumberAt)
+-- an event
+abbrev pub event : Grammar Word RawEvent
+event = forms event_forms
 
--- the word of an event, and its numbers
-abbrev pub IsEvent : RawEvent → List Word → List Word → Type 0
-IsEvent (event.Claim who) ts rest = After (IsWord keyword.Claim) IsNumberAt who ts rest
-IsEvent (event.Send who units) ts rest = After (IsWord keyword.Send) IsSend (who, units) ts rest
-IsEvent (event.Again who) ts rest = After (IsWord keyword.Again) IsNumberAt who ts rest
-IsEvent (event.Die who) ts rest = After (IsWord keyword.Die) IsNumberAt who ts rest
-IsEvent (event.Lose who) ts rest = After (IsWord keyword.Lose) IsNumberAt who ts rest
-IsEvent event.Reissue ts rest = IsWord keyword.Reissue ts rest
+-- a section, of its goal's name and its events
+abbrev pub raw_section : RawName × List RawEvent → RawSection
+raw_section (goal, events) = record { goal = goal; events = events }
 
--- the word of an event that has a worker stands at the front
-abbrev pub IsWorkerWord : List Word → List Word → Type 0
-IsWorkerWord ts rest = (k : Keyword) × IsWord k ts rest × (has_worker k ≡ true)
+-- "goal" Small event*
+abbrev pub section : Grammar Word RawSection
+section = made raw_section (both (name_behind keyword.Goal) (repeated begins_event event))
 
--- where an event is stuck: no word begins one; or it begins one, and the worker's number doesn't follow
-abbrev pub StuckEvent : List Word → List Word → Type 0
-StuckEvent ts rest = ((begins_event ts ≡ false) × (rest ≡ ts)) ⊎ StuckOptional IsWorkerWord (Lacks IsNumberAt) ts rest
+-- section*
+abbrev pub schedule : Grammar Word (List RawSection)
+schedule = many section
 
--- goal NAME, and events as long as the next word begins one
-abbrev pub IsSection : RawSection → List Word → List Word → Type 0
-IsSection s = Both (IsNameBehind keyword.Goal) (Repeated IsEvent begins_event) (s.goal, s.events)
-
--- where a section is stuck: at its keyword, at its name, or in an event
-abbrev pub StuckSection : List Word → List Word → Type 0
-StuckSection = StuckBoth (IsNameBehind keyword.Goal) (StuckNameBehind keyword.Goal) (StuckRepeated IsEvent begins_event StuckEvent)
-
--- the sections, and no word after them
+-- the sections are the words up to these
 abbrev pub IsSchedule : List RawSection → List Word → List Word → Type 0
-IsSchedule = Many IsSection
+IsSchedule = Is schedule
 
--- where a schedule is stuck
+-- a reading of sections ends at the first of these words
 abbrev pub StuckSchedule : List Word → List Word → Type 0
-StuckSchedule = StuckMany IsSection StuckSection
+StuckSchedule = Stuck schedule

@@ -1,7 +1,7 @@
 ghost use Rattle.std.specs.Prelude.{◌≡◌, ◌<◌, ℕ, IfOk, IsTrue, length, slice_set, Some, None};
 ghost use Rattle.mp_drill.specs.declared.limits.TheConstants.{WORKERS};
 ghost use Rattle.mp_strategy.specs.Evaluation.{eval};
-ghost use Rattle.mp_strategy.specs.Laws.{IsSound};
+ghost use Rattle.mp_strategy.specs.Laws.{IsSound, IsGood};
 ghost use Rattle.mp_strategy.specs.Strategies.{Evals};
 ghost use Rattle.mp_strategy.specs.Works.{IsWork};
 ghost use Rattle.mp_core.specs.Cores.{moved};
@@ -9,12 +9,12 @@ ghost use Rattle.mp_drill.specs.Ranges.{is_in_range, are_in_range};
 ghost use Rattle.mp_drill.specs.Ready.{IsReady};
 ghost use Rattle.mp_drill.specs.Trace.{claim_reply, Happens, IsTrace};
 ghost use Rattle.mp_drill.specs.Trace.{hand_over as hand_over_of};
-ghost use Rattle.mp_drill.specs.Workers.{world, idle};
+ghost use Rattle.mp_drill.specs.Workers.{world, idle, worker_at, with_hand};
 
 use crate::rounds::{deliver, evaluated, finish};
 use crate::schedule::{Event, Reply};
 use crate::workers::{Worker, idle_workers};
-use mp_core::{Claimed, Core, copy_parcel};
+use mp_core::{Claimed, Core, Parcel, Ticket, copy_parcel};
 use mp_logic::{List, Logic, NoMemory};
 use mp_strategy::{Outcome, Problem, Work};
 use std::alloc::Global;
@@ -37,6 +37,26 @@ fn hand_over<G: Drop>(workers: &mut Vec<Worker<G>>, who: u32, claimed: Claimed<G
     }
 }
 
+/// Takes the worker's ticket away, if it holds one.
+fn take_hand<G: Drop>(workers: &mut Vec<Worker<G>>, who: u32) -> Option<Ticket<G>>
+    requires { who < length workers.old.items }
+    ensures hand { result ≡ (worker_at workers.old.items who).hand }
+    ensures workers { workers.new.items ≡ with_hand workers.old.items who None }
+{
+    workers[who as usize].hand.take()
+}
+
+/// The worker holds no ticket, and this parcel as its last one.
+fn keep_last<G: Drop>(workers: &mut Vec<Worker<G>>, who: u32, last: Parcel<G>)
+    requires { who < length workers.old.items }
+    ensures { workers.new.items ≡ slice_set workers.old.items who (record { hand = None; last = Some last }) }
+{
+    workers[who as usize] = Worker {
+        hand: None,
+        last: Some(last),
+    };
+}
+
 /// The core, and what each worker holds.
 #[derive(Drop)]
 pub(crate) struct Session<'p, L: Logic> {
@@ -47,11 +67,11 @@ pub(crate) struct Session<'p, L: Logic> {
 impl<'p, L: Logic> Session<'p, L> {
     /// The worker claims a job.
     fn claim(&mut self, alloc: Global, who: u32) -> Result<Reply, NoMemory>
-        requires ready { IsReady L.good L.step_of self.old.core self.old.workers.items }
+        requires ready { IsReady L.meaning self.old.core self.old.workers.items }
         requires who { who < WORKERS }
-        ensures ready { IfOk result (λ _. IsReady L.good L.step_of self.new.core self.new.workers.items) }
+        ensures ready { IfOk result (λ _. IsReady L.meaning self.new.core self.new.workers.items) }
         ensures same { IfOk result (λ _. self.new.core ≡ moved self.old.core self.new.core.machine) }
-        ensures reply { IfOk result (λ r. Happens (eval (L.step_of self.old.core.logic) self.old.core.justs self.old.core.tacs) (world self.old.core.machine self.old.workers.items) (Event.Claim who) r (world self.new.core.machine self.new.workers.items)) }
+        ensures reply { IfOk result (λ r. Happens (eval L.meaning self.old.core.problem) (world self.old.core.machine self.old.workers.items) (Event.Claim who) r (world self.new.core.machine self.new.workers.items)) }
     {
         let claimed = self.core.claim(alloc, who)?;
         Ok(hand_over(&mut self.workers, who, claimed))
@@ -59,10 +79,10 @@ impl<'p, L: Logic> Session<'p, L> {
 
     /// The oldest claim becomes worker 0's.
     fn reissue(&mut self, alloc: Global) -> Result<Reply, NoMemory>
-        requires ready { IsReady L.good L.step_of self.old.core self.old.workers.items }
-        ensures ready { IfOk result (λ _. IsReady L.good L.step_of self.new.core self.new.workers.items) }
+        requires ready { IsReady L.meaning self.old.core self.old.workers.items }
+        ensures ready { IfOk result (λ _. IsReady L.meaning self.new.core self.new.workers.items) }
         ensures same { IfOk result (λ _. self.new.core ≡ moved self.old.core self.new.core.machine) }
-        ensures reply { IfOk result (λ r. Happens (eval (L.step_of self.old.core.logic) self.old.core.justs self.old.core.tacs) (world self.old.core.machine self.old.workers.items) Event.Reissue r (world self.new.core.machine self.new.workers.items)) }
+        ensures reply { IfOk result (λ r. Happens (eval L.meaning self.old.core.problem) (world self.old.core.machine self.old.workers.items) Event.Reissue r (world self.new.core.machine self.new.workers.items)) }
     {
         let claimed = self.core.reissue(alloc)?;
         Ok(hand_over(&mut self.workers, 0, claimed))
@@ -70,47 +90,45 @@ impl<'p, L: Logic> Session<'p, L> {
 
     /// The worker reports what its ticket's work evaluates to.
     fn send(&mut self, alloc: Global, who: u32) -> Result<Reply, NoMemory>
-        requires ready { IsReady L.good L.step_of self.old.core self.old.workers.items }
+        requires ready { IsReady L.meaning self.old.core self.old.workers.items }
         requires who { who < WORKERS }
-        ensures ready { IfOk result (λ _. IsReady L.good L.step_of self.new.core self.new.workers.items) }
+        ensures ready { IfOk result (λ _. IsReady L.meaning self.new.core self.new.workers.items) }
         ensures same { IfOk result (λ _. self.new.core ≡ moved self.old.core self.new.core.machine) }
-        ensures reply { IfOk result (λ r. Happens (eval (L.step_of self.old.core.logic) self.old.core.justs self.old.core.tacs) (world self.old.core.machine self.old.workers.items) (Event.Send who 1) r (world self.new.core.machine self.new.workers.items)) }
+        ensures reply { IfOk result (λ r. Happens (eval L.meaning self.old.core.problem) (world self.old.core.machine self.old.workers.items) (Event.Send who 1) r (world self.new.core.machine self.new.workers.items)) }
     {
         let problem = self.core.problem();
-        let Some(ticket) = &self.workers[who as usize].hand else {
+        let Some(ticket) = take_hand(&mut self.workers, who) else {
             return Ok(Reply::Empty);
         };
         let parcel = evaluated(alloc, problem, ticket)?;
         let last = copy_parcel(alloc, problem.logic, &parcel)?;
-        self.workers[who as usize] = Worker {
-            hand: None,
-            last: Some(last),
-        };
+        keep_last(&mut self.workers, who, last);
         deliver(&mut self.core, parcel)
     }
 
     /// The worker reports its last parcel once more.
     fn again(&mut self, alloc: Global, who: u32) -> Result<Reply, NoMemory>
-        requires ready { IsReady L.good L.step_of self.old.core self.old.workers.items }
+        requires ready { IsReady L.meaning self.old.core self.old.workers.items }
         requires who { who < WORKERS }
-        ensures ready { IfOk result (λ _. IsReady L.good L.step_of self.new.core self.new.workers.items) }
+        ensures ready { IfOk result (λ _. IsReady L.meaning self.new.core self.new.workers.items) }
         ensures same { IfOk result (λ _. self.new.core ≡ moved self.old.core self.new.core.machine) }
-        ensures reply { IfOk result (λ r. Happens (eval (L.step_of self.old.core.logic) self.old.core.justs self.old.core.tacs) (world self.old.core.machine self.old.workers.items) (Event.Again who) r (world self.new.core.machine self.new.workers.items)) }
+        ensures reply { IfOk result (λ r. Happens (eval L.meaning self.old.core.problem) (world self.old.core.machine self.old.workers.items) (Event.Again who) r (world self.new.core.machine self.new.workers.items)) }
     {
+        let problem = self.core.problem();
         let Some(last) = &self.workers[who as usize].last else {
             return Ok(Reply::Empty);
         };
-        let parcel = copy_parcel(alloc, self.core.problem().logic, last)?;
+        let parcel = copy_parcel(alloc, problem.logic, last)?;
         deliver(&mut self.core, parcel)
     }
 
     /// The worker drops what it holds.
     fn die(&mut self, who: u32) -> Reply
-        requires ready { IsReady L.good L.step_of self.old.core self.old.workers.items }
+        requires ready { IsReady L.meaning self.old.core self.old.workers.items }
         requires who { who < WORKERS }
-        ensures ready { IsReady L.good L.step_of self.new.core self.new.workers.items }
+        ensures ready { IsReady L.meaning self.new.core self.new.workers.items }
         ensures same { self.new.core ≡ moved self.old.core self.new.core.machine }
-        ensures reply { Happens (eval (L.step_of self.old.core.logic) self.old.core.justs self.old.core.tacs) (world self.old.core.machine self.old.workers.items) (Event.Die who) result (world self.new.core.machine self.new.workers.items) }
+        ensures reply { Happens (eval L.meaning self.old.core.problem) (world self.old.core.machine self.old.workers.items) (Event.Die who) result (world self.new.core.machine self.new.workers.items) }
     {
         self.workers[who as usize] = Worker {
             hand: None,
@@ -121,11 +139,11 @@ impl<'p, L: Logic> Session<'p, L> {
 
     /// One event of the schedule.
     fn happen(&mut self, alloc: Global, event: &Event) -> Result<Reply, NoMemory>
-        requires ready { IsReady L.good L.step_of self.old.core self.old.workers.items }
+        requires ready { IsReady L.meaning self.old.core self.old.workers.items }
         requires range { IsTrue (is_in_range event.now) }
-        ensures ready { IfOk result (λ _. IsReady L.good L.step_of self.new.core self.new.workers.items) }
+        ensures ready { IfOk result (λ _. IsReady L.meaning self.new.core self.new.workers.items) }
         ensures same { IfOk result (λ _. self.new.core ≡ moved self.old.core self.new.core.machine) }
-        ensures reply { IfOk result (λ r. Happens (eval (L.step_of self.old.core.logic) self.old.core.justs self.old.core.tacs) (world self.old.core.machine self.old.workers.items) event.now r (world self.new.core.machine self.new.workers.items)) }
+        ensures reply { IfOk result (λ r. Happens (eval L.meaning self.old.core.problem) (world self.old.core.machine self.old.workers.items) event.now r (world self.new.core.machine self.new.workers.items)) }
     {
         match event {
             Event::Claim(who) => self.claim(alloc, *who),
@@ -146,14 +164,15 @@ pub fn drill<L: Logic>(
     work: Work<L::Goal>,
     events: &List<Event>,
 ) -> Result<(List<Reply>, Outcome<L::Goal>), NoMemory>
-    requires work { IsWork (L.good problem.now.logic.now) problem.now.tacs work }
+    requires work { IsWork L.meaning problem.now work }
     requires events { IsTrue (are_in_range events.now) }
-    ensures trace { IfOk result (λ r. IsTrace (eval (L.step_of problem.now.logic.now) problem.now.justs problem.now.tacs) work events.now r.0 r.1) }
-    ensures outcome { IfOk result (λ r. r.1 ≡ eval (L.step_of problem.now.logic.now) problem.now.justs problem.now.tacs work) }
-    ensures relation { IfOk result (λ r. Evals (L.step_of problem.now.logic.now) problem.now.justs problem.now.tacs work r.1) }
-    ensures valid { IfOk result (λ r. IsSound (L.step_of problem.now.logic.now) problem.now.justs work.fuel work.goal r.1) }
+    ensures trace { IfOk result (λ r. IsTrace (eval L.meaning problem.now) work events.now r.0 r.1) }
+    ensures relation { IfOk result (λ r. Evals L.meaning problem.now work r.1) }
+    ensures valid { IfOk result (λ r. IsSound L.meaning problem.now work r.1) }
+    ensures good { IfOk result (λ r. IsGood (L.meaning problem.now.logic) r.1) }
     ensures length { IfOk result (λ r. length r.0 ≡ length events.now) }
 {
+    problem.known();
     let mut session = Session {
         core: Core::start(problem, work)?,
         workers: idle_workers(alloc)?,

@@ -15,7 +15,10 @@ mod value;
 mod workers;
 
 pub use drilling::drill;
-pub use laws::{one_schedule_reading, one_schedule_text, one_trace, some_trace};
+pub use laws::{
+    one_schedule_text, one_trace, some_schedule_text, some_trace, traces_are_allowed,
+    traces_evaluate,
+};
 pub use limits::{LAST_WORKER, MOST_UNITS, UNITS, WORKERS};
 pub use raw::{RawEvent, RawSection};
 pub use reading::read_schedule;

@@ -1,5 +1,5 @@
 use mp_logic::List;
-use mp_words::{RawName, RawNumber};
+use mp_words::{Named, RawName, RawNumber};
 
 /// An event as it is written.
 #[derive(Clone, Copy, Debug, PartialEq, Eq)]
@@ -20,4 +20,12 @@ pub enum RawEvent {
 pub struct RawSection {
     pub goal: RawName,
     pub events: List<RawEvent>,
+}
+
+impl Named for RawSection {
+    ghost named = { λ s. s.goal };
+
+    fn named(&self) -> RawName {
+        self.goal
+    }
 }

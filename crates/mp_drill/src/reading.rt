@@ -9,7 +9,7 @@ use crate::syntax::parse_schedule;
 use crate::value::build_schedule;
 use mp_logic::{List, Sym};
 use mp_names::Names;
-use mp_words::{TextFail, lex_text};
+use mp_words::{TextFail, lex_text, stopped};
 use std::alloc::Global;
 
 /// Reads a schedule that is all of the text, for these goals: its sections, in the order of the text, each with events in
@@ -28,13 +28,13 @@ pub fn read_schedule(
     ensures few { length names.new ≤ length names.old + length source.now }
     ensures range { IfOk result EachInRange }
 {
-    let text = lex_text(alloc, names, source)?;
-    let raws = match parse_schedule(alloc, text.words.as_slice()) {
+    let words = lex_text(alloc, names, source)?;
+    let raws = match parse_schedule(alloc, words.as_slice()) {
         Ok(raws) => raws,
-        Err(fail) => return Err(text.stopped(source, fail)),
+        Err(fail) => return Err(stopped(source, fail)),
     };
     if let Some(fault) = schedule_fault(alloc, goals, &raws)? {
-        return Err(text.broken(source, fault));
+        return Err(TextFail::Bad(fault));
     }
     let sections = build_schedule(alloc, &raws)?;
     Ok(sections)

@@ -12,23 +12,23 @@ use crate::schedule::Reply;
 use mp_core::{Claimed, Core, Parcel, Reported, Ticket};
 use mp_eval::evaluate;
 use mp_logic::{Logic, NoMemory};
-use mp_strategy::{Outcome, Problem, copy_outcome, copy_work};
+use mp_strategy::{Outcome, Problem};
 use std::alloc::Global;
 
 /// The ticket's parcel, with what its work evaluates to.
 pub(crate) fn evaluated<L: Logic>(
     alloc: Global,
     problem: &Problem<L>,
-    ticket: &Ticket<L::Goal>,
+    ticket: Ticket<L::Goal>,
 ) -> Result<Parcel<L::Goal>, NoMemory>
-    requires { IsWork (L.good problem.now.logic.now) problem.now.tacs ticket.now.work }
-    ensures value { IfOk result (λ p. p ≡ evaluated_of (eval (L.step_of problem.now.logic.now) problem.now.justs problem.now.tacs) ticket.now) }
-    ensures honest { IfOk result (λ p. Evals (L.step_of problem.now.logic.now) problem.now.justs problem.now.tacs p.work p.outcome) }
+    requires { IsWork L.meaning problem.now ticket.work }
+    ensures value { IfOk result (λ p. p ≡ evaluated_of (eval L.meaning problem.now) ticket) }
+    ensures honest { IfOk result (λ p. Evals L.meaning problem.now p.work p.outcome) }
 {
-    let work = copy_work(alloc, problem.logic, &ticket.work)?;
+    let Ticket { epoch, work } = ticket;
     let outcome = evaluate(alloc, problem, &work)?;
     Ok(Parcel {
-        epoch: ticket.epoch,
+        epoch,
         work,
         outcome,
     })
@@ -39,10 +39,10 @@ pub(crate) fn deliver<L: Logic>(
     core: &mut Core<'_, L>,
     parcel: Parcel<L::Goal>,
 ) -> Result<Reply, NoMemory>
-    requires { Evals (L.step_of core.old.logic) core.old.justs core.old.tacs parcel.work parcel.outcome }
+    requires { Evals L.meaning core.old.problem parcel.work parcel.outcome }
     ensures same { IfOk result (λ _. core.new ≡ moved core.old core.new.machine) }
     ensures reply { IfOk result (λ r. Delivers core.old.machine parcel r core.new.machine) }
-    ensures sound { IsSoundCore L.good L.step_of core.old → IsSoundCore L.good L.step_of core.new }
+    ensures sound { IsSoundCore L.meaning core.old → IsSoundCore L.meaning core.new }
 {
     match core.report(parcel) {
         Reported::Taken => Ok(Reply::Taken),
@@ -57,24 +57,23 @@ pub(crate) fn finish<L: Logic>(
     alloc: Global,
     core: Core<'_, L>,
 ) -> Result<Outcome<L::Goal>, NoMemory>
-    requires sound { IsSoundCore L.good L.step_of core }
-    requires work { IsWork (L.good core.logic) core.tacs core.machine.work }
-    ensures { IfOk result (λ o. Rounds (eval (L.step_of core.entry.logic) core.entry.justs core.entry.tacs) core.entry.machine o) }
+    requires { IsSoundCore L.meaning core }
+    ensures { IfOk result (λ o. Rounds (eval L.meaning core.entry.problem) core.entry.machine o) }
 {
     let mut core = core;
     let problem = core.problem();
     loop {
         match core.next_for_caller(alloc)? {
             Claimed::Ticket(ticket) => {
-                let parcel = evaluated(alloc, problem, &ticket)?;
+                let parcel = evaluated(alloc, problem, ticket)?;
                 let _ = deliver(&mut core, parcel)?;
             }
             Claimed::Nothing => unreachable!(),
             Claimed::Finished => {
-                let Some(outcome) = core.answer() else {
+                let Some(outcome) = core.into_answer() else {
                     unreachable!()
                 };
-                return copy_outcome(alloc, problem.logic, outcome);
+                return Ok(outcome);
             }
             Claimed::Spent => return evaluate(alloc, problem, core.work()),
         }

@@ -1,19 +1,21 @@
-ghost use Rattle.std.specs.Prelude.{◌≡◌, ◌++◌, List, IfOk, OnOk};
+ghost use Rattle.std.specs.Prelude.{◌≡◌, List, IfOk};
 ghost use Rattle.mp_logic.specs.declared.sym.Sym.{Sym};
-ghost use Rattle.mp_names.specs.Sets.{Met, with_met};
+ghost use Rattle.mp_names.specs.Sets.{Met};
 ghost use Rattle.mp_words.specs.Faults.{least, least_from};
-ghost use Rattle.mp_drill.specs.ScheduleStatics.{event_faults, events_faults, name_faults, schedule_faults};
+ghost use Rattle.mp_drill.specs.ScheduleStatics.{event_faults, events_faults, goal_faults, schedule_faults, section_faults};
 
 use crate::limits::{LAST_WORKER, MOST_UNITS};
 use crate::raw::{RawEvent, RawSection};
 use mp_logic::{List, NoMemory, Sym};
 use mp_names::NameSet;
-use mp_words::{Fault, RawName, TextWhy, check_number, check_written_number, sooner_of};
+use mp_words::{
+    RawName, TextErr, TextWhy, check_number, check_second, check_written_number, sooner_of,
+};
 use std::alloc::Global;
 
 /// The earliest of the fault that is held and those of an event.
 #[tactic(auto, using(mp_words::proofs::Soonest::least_from_append))]
-fn check_event(held: Option<Fault>, raw: &RawEvent) -> Option<Fault>
+fn check_event(held: Option<TextErr>, raw: &RawEvent) -> Option<TextErr>
     ensures { result ≡ least_from held (event_faults raw.now) }
 {
     match raw {
@@ -30,7 +32,7 @@ fn check_event(held: Option<Fault>, raw: &RawEvent) -> Option<Fault>
 }
 
 /// The earliest of the fault that is held and those of events.
-fn check_events(held: Option<Fault>, raws: &[RawEvent]) -> Option<Fault>
+fn check_events(held: Option<TextErr>, raws: &[RawEvent]) -> Option<TextErr>
     ensures { result ≡ least_from held (events_faults raws.now) }
 {
     let mut held = held;
@@ -38,30 +40,6 @@ fn check_events(held: Option<Fault>, raws: &[RawEvent]) -> Option<Fault>
         held = check_event(held, raw);
     }
     held
-}
-
-/// The earliest of the fault that is held and those of a section's name. The names that are known are the goals and the
-/// names of earlier sections, which alone are taken.
-// A name that is known and isn't taken is a goal's.
-fn check_name(
-    held: Option<Fault>,
-    known: &mut NameSet,
-    taken: &mut NameSet,
-    name: RawName,
-) -> Result<Option<Fault>, NoMemory>
-    ensures fault { IfOk result (λ found. (goals names : List Sym) → Met known.old (goals ++ names) → Met taken.old names → found ≡ least_from held (name_faults goals names name)) }
-    ensures known { OnOk result (known.new ≡ with_met known.old name.name.0) }
-    ensures taken { OnOk result (taken.new ≡ with_met taken.old name.name.0) }
-{
-    let is_known = known.meet(name.name)?;
-    let is_taken = taken.meet(name.name)?;
-    if is_taken {
-        Ok(sooner_of(held, name.left, TextWhy::Taken))
-    } else if is_known {
-        Ok(held)
-    } else {
-        Ok(sooner_of(held, name.left, TextWhy::UnknownName))
-    }
 }
 
 /// The names of these goals.
@@ -75,20 +53,36 @@ fn goal_names(alloc: Global, goals: &List<Sym>) -> Result<NameSet, NoMemory>
     Ok(names)
 }
 
+/// The sooner one of the fault that is held and UnknownName, for a name that isn't among these names of goals.
+fn check_goal(held: Option<TextErr>, names: &NameSet, name: RawName) -> Option<TextErr>
+    ensures { (goals : List Sym) → Met names.now goals → result ≡ least_from held (goal_faults goals name) }
+{
+    match names.place(name.name) {
+        Some(_) => held,
+        None => sooner_of(held, name.at, TextWhy::UnknownName),
+    }
+}
+
+/// The earliest of the fault that is held and those of a section, but that its name is taken, for goals of these names.
+fn check_section(held: Option<TextErr>, names: &NameSet, raw: &RawSection) -> Option<TextErr>
+    ensures { (goals : List Sym) → Met names.now goals → result ≡ least_from held (section_faults goals raw.now) }
+{
+    let held = check_goal(held, names, raw.goal);
+    check_events(held, raw.events.as_slice())
+}
+
 /// The least static fault of a schedule as it is written, for these goals. None exactly where it has none.
 pub(crate) fn schedule_fault(
     alloc: Global,
     goals: &List<Sym>,
     raws: &List<RawSection>,
-) -> Result<Option<Fault>, NoMemory>
+) -> Result<Option<TextErr>, NoMemory>
     ensures { IfOk result (λ found. found ≡ least (schedule_faults goals.now raws.now)) }
 {
-    let mut known = goal_names(alloc, goals)?;
-    let mut taken = NameSet::new(alloc);
-    let mut held = None;
+    let names = goal_names(alloc, goals)?;
+    let mut held = check_second(alloc, raws.as_slice(), TextWhy::Taken, None)?;
     for raw in raws.as_slice() {
-        held = check_name(held, &mut known, &mut taken, raw.goal)?;
-        held = check_events(held, raw.events.as_slice());
+        held = check_section(held, &names, raw);
     }
     Ok(held)
 }

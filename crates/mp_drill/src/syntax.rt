@@ -1,18 +1,20 @@
-ghost use Rattle.std.specs.Prelude.{◌<◌, ◌≤◌, [], length, IfOk};
-ghost use Rattle.mp_words.specs.Parts.{IsNumberAt, IfThere, Lacks, Reads};
-ghost use Rattle.mp_drill.specs.ScheduleGrammar.{begins_event, is_event_word, IsSend, IsEvent, StuckEvent, IsSection, StuckSection, IsSchedule, StuckSchedule};
+ghost use Rattle.std.specs.Prelude.{◌≡◌, ◌<◌, ◌≤◌, [], length, IfOk};
+ghost use Rattle.mp_words.specs.Grammars.{if_there, read, whole};
+ghost use Rattle.mp_words.specs.Fronts.{a_number, number_at};
+ghost use Rattle.mp_words.specs.Reading.{Reads};
+ghost use Rattle.mp_drill.specs.ScheduleGrammar.{begins_event, event, schedule, section};
 
 use crate::raw::{RawEvent, RawSection};
 use mp_logic::List;
 use mp_words::{
-    Beginning, Keyword, RawNumber, ReadFail, Reader, Word, keyword, many, name_behind, number_at,
+    Beginning, Keyword, RawNumber, ReadFail, Reader, What, Word, many, name_behind, number_at,
     repeated, stuck,
 };
 use std::alloc::Global;
 
 /// Reads the number of a worker.
 fn parse_worker(words: &[Word]) -> Result<(RawNumber, &[Word]), ReadFail>
-    ensures reads { Reads (λ x. (x.0, x.1.now)) IsNumberAt (Lacks IsNumberAt) words.now result }
+    ensures reads { Reads (λ x. (x.0, x.1.now)) a_number words.now result }
     ensures shorter { IfOk result (λ x. length x.1.now < length words.now) }
 {
     match number_at(words) {
@@ -23,7 +25,7 @@ fn parse_worker(words: &[Word]) -> Result<(RawNumber, &[Word]), ReadFail>
 
 /// Reads the number of units, where one stands.
 fn parse_units(words: &[Word]) -> (Option<RawNumber>, &[Word])
-    ensures reads { IfThere IsNumberAt result.0 words.now result.1.now }
+    ensures reads { if_there number_at words.now ≡ read result.0 result.1.now }
     ensures within { length result.1.now ≤ length words.now }
 {
     match number_at(words) {
@@ -35,25 +37,21 @@ fn parse_units(words: &[Word]) -> (Option<RawNumber>, &[Word])
 impl Reader for RawEvent {
     type Raw = RawEvent;
 
-    ghost is = { IsEvent };
-
-    ghost stops = { StuckEvent };
+    ghost grammar = { event };
 
     /// Reads the word of an event, its worker and its units.
     fn read(_alloc: Global, words: &[Word]) -> Result<(RawEvent, &[Word]), ReadFail> {
-        let Some(
-            (
-                Word::Small {
-                    keyword: Some(found),
-                    ..
-                },
-                at,
-            ),
-        ) = words.split_first()
+        let Some((word, at)) = words.split_first() else {
+            return Err(stuck(words));
+        };
+        let What::Small {
+            keyword: Some(found),
+            ..
+        } = word.what
         else {
             return Err(stuck(words));
         };
-        match *found {
+        match found {
             Keyword::Claim => {
                 let (who, rest) = parse_worker(at)?;
                 Ok((RawEvent::Claim(who), rest))
@@ -85,16 +83,14 @@ impl Beginning for RawEvent {
     ghost begun = { begins_event };
 
     fn begins(words: &[Word]) -> bool {
-        match words.split_first() {
-            Some(
-                (
-                    Word::Small {
-                        keyword: Some(found),
-                        ..
-                    },
-                    _,
-                ),
-            ) => matches!(
+        let Some(word) = words.first() else {
+            return false;
+        };
+        match word.what {
+            What::Small {
+                keyword: Some(found),
+                ..
+            } => matches!(
                 found,
                 Keyword::Claim
                     | Keyword::Send
@@ -111,9 +107,7 @@ impl Beginning for RawEvent {
 impl Reader for RawSection {
     type Raw = RawSection;
 
-    ghost is = { IsSection };
-
-    ghost stops = { StuckSection };
+    ghost grammar = { section };
 
     /// Reads `goal`, a name and events, as long as the next word begins one.
     fn read(alloc: Global, words: &[Word]) -> Result<(RawSection, &[Word]), ReadFail> {
@@ -125,7 +119,7 @@ impl Reader for RawSection {
 
 /// Reads a schedule that is all of the words.
 pub(crate) fn parse_schedule(alloc: Global, words: &[Word]) -> Result<List<RawSection>, ReadFail>
-    ensures { Reads (λ x. (x, [])) IsSchedule StuckSchedule words.now result }
+    ensures { Reads (λ x. (x, [])) (whole schedule) words.now result }
 {
     many::<RawSection>(alloc, words)
 }

@@ -1,2 +1,4 @@
 pub mod Arms
+pub mod InPlace
 pub mod Leaves
+pub mod Queues

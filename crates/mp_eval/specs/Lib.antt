@@ -1,1 +1,3 @@
-pub mod Kids
+pub mod Ends
+pub mod Leaves
+pub mod Queues

@@ -1,8 +1,12 @@
 //! Evaluation of strategies by one thread, and the laws of what they give.
 #![tactic(auto)]
 
+mod checks;
+mod ended;
 mod evaluation;
 mod laws;
+mod queue;
+mod rows;
 
 pub use evaluation::evaluate;
 pub use laws::{

@@ -14,7 +14,7 @@ use Rattle.mp_lex.specs.declared.token.LexWhy.{LexWhy}
 use Rattle.mp_lex.specs.declared.token.LexWhy.TheVariants.{BadByte, LongName, BadNumber, BadString}
 use Rattle.mp_lex.specs.declared.front.Front.{Front}
 use Rattle.mp_lex.specs.declared.front.Front.TheVariants as front
-use Rattle.mp_lex.specs.Bytes.{is_small, is_cap, is_digit, is_word, is_blank, is_comment}
+use Rattle.mp_lex.specs.Bytes.{is_small, is_cap, is_digit, is_word_byte, is_blank, is_comment}
 use Rattle.mp_lex.specs.Forms.{is_text}
 use Rattle.mp_lex.specs.Lex.{checked, string_len, mark_len, mark_front, ended_comment, comment_of, variable_of, begins_with, front_of}
 use Rattle.mp_lex.proofs.Found.{begins, branch}
@@ -82,7 +82,7 @@ variable_kept : (j : ℕ) (bs : List ℕ) → Keeps (suc j) (variable_of (39 ∷
 variable_kept j [] = tt
 variable_kept zero (b ∷ bs) =
     let P = Keeps 1 (front.Bad 0 BadByte) in
-    let m = 1 + prefix_len is_word (b ∷ bs) in
+    let m = 1 + prefix_len is_word_byte (b ∷ bs) in
     branch P (is_small b) (checked SmallVar LongName m (39 ∷ b ∷ bs)) _
     (λ e. checked_kept SmallVar LongName m (39 ∷ b ∷ bs) 1 (front.Bad 0 BadByte) (λ le. let n = word_run b bs (small_word b e) in absurd (omega (arith, le, n))))
     (λ _. branch P (is_cap b) (checked CapVar LongName m (39 ∷ b ∷ bs)) (front.Bad 0 BadByte)
@@ -90,13 +90,13 @@ variable_kept zero (b ∷ bs) =
 variable_kept (suc j) (b ∷ bs) =
     let again = variable_of (39 ∷ b ∷ take j bs) (b ∷ take j bs) in
     let P = Keeps (suc (suc j)) again in
-    let m = 1 + prefix_len is_word (b ∷ bs) in
+    let m = 1 + prefix_len is_word_byte (b ∷ bs) in
     branch P (is_small b) (checked SmallVar LongName m (39 ∷ b ∷ bs)) _
     (λ e. checked_kept SmallVar LongName m (39 ∷ b ∷ bs) (suc (suc j)) again
-    (λ le. yes (is_small b) _ _ e ∙ ap (λ n. checked SmallVar LongName (1 + n) (39 ∷ b ∷ take j bs)) (prefix_take is_word (suc j) (b ∷ bs) (omega (arith, le)))))
+    (λ le. yes (is_small b) _ _ e ∙ ap (λ n. checked SmallVar LongName (1 + n) (39 ∷ b ∷ take j bs)) (prefix_take is_word_byte (suc j) (b ∷ bs) (omega (arith, le)))))
     (λ n. branch P (is_cap b) (checked CapVar LongName m (39 ∷ b ∷ bs)) (front.Bad 0 BadByte)
     (λ e. checked_kept CapVar LongName m (39 ∷ b ∷ bs) (suc (suc j)) again
-    (λ le. no (is_small b) _ _ n ∙ yes (is_cap b) _ _ e ∙ ap (λ k. checked CapVar LongName (1 + k) (39 ∷ b ∷ take j bs)) (prefix_take is_word (suc j) (b ∷ bs) (omega (arith, le))))) (λ _. tt))
+    (λ le. no (is_small b) _ _ n ∙ yes (is_cap b) _ _ e ∙ ap (λ k. checked CapVar LongName (1 + k) (39 ∷ b ∷ take j bs)) (prefix_take is_word_byte (suc j) (b ∷ bs) (omega (arith, le))))) (λ _. tt))
 
 negative_kept : (j : ℕ) (bs : List ℕ) → begins_with is_digit bs ≡ true → Keeps (suc j) (front_of (45 ∷ take j bs)) (checked Num BadNumber (1 + prefix_len is_digit bs) (45 ∷ bs))
 negative_kept j [] e = absurd (true≢false (sym e))
@@ -158,14 +158,14 @@ pub kept : (b : ℕ) (bs : List ℕ) (j : ℕ) → Keeps (suc j) (front_of (b �
 kept b bs j =
     let again = front_of (b ∷ take j bs) in
     let P = Keeps (suc j) again in
-    let words = prefix_len is_word (b ∷ bs) in
+    let words = prefix_len is_word_byte (b ∷ bs) in
     let digits = prefix_len is_digit (b ∷ bs) in
     branch P (is_small b) (checked Small LongName words (b ∷ bs)) _
     (λ e. checked_kept Small LongName words (b ∷ bs) (suc j) again
-    (λ le. yes (is_small b) _ _ e ∙ ap (λ n. checked Small LongName n (b ∷ take j bs)) (prefix_take is_word (suc j) (b ∷ bs) le)))
+    (λ le. yes (is_small b) _ _ e ∙ ap (λ n. checked Small LongName n (b ∷ take j bs)) (prefix_take is_word_byte (suc j) (b ∷ bs) le)))
     (λ n1. branch P (is_cap b) (checked Cap LongName words (b ∷ bs)) _
     (λ e. checked_kept Cap LongName words (b ∷ bs) (suc j) again
-    (λ le. no (is_small b) _ _ n1 ∙ yes (is_cap b) _ _ e ∙ ap (λ n. checked Cap LongName n (b ∷ take j bs)) (prefix_take is_word (suc j) (b ∷ bs) le)))
+    (λ le. no (is_small b) _ _ n1 ∙ yes (is_cap b) _ _ e ∙ ap (λ n. checked Cap LongName n (b ∷ take j bs)) (prefix_take is_word_byte (suc j) (b ∷ bs) le)))
     (λ n2. branch P (is_digit b) (checked Num BadNumber digits (b ∷ bs)) _
     (λ e. checked_kept Num BadNumber digits (b ∷ bs) (suc j) again
     (λ le. no (is_small b) _ _ n1 ∙ no (is_cap b) _ _ n2 ∙ yes (is_digit b) _ _ e ∙ ap (λ n. checked Num BadNumber n (b ∷ take j bs)) (prefix_take is_digit (suc j) (b ∷ bs) le)))

@@ -11,7 +11,7 @@ use Rattle.mp_lex.specs.declared.token.LexWhy.{LexWhy}
 use Rattle.mp_lex.specs.declared.token.LexWhy.TheVariants.{BadByte, LongName, BadNumber, BadString, TooNested}
 use Rattle.mp_lex.specs.declared.front.Front.{Front}
 use Rattle.mp_lex.specs.declared.front.Front.TheVariants as front
-use Rattle.mp_lex.specs.Bytes.{is_small, is_cap, is_digit, is_word, is_blank, is_comment, is_opening}
+use Rattle.mp_lex.specs.Bytes.{is_small, is_cap, is_digit, is_word_byte, is_blank, is_comment, is_opening}
 use Rattle.mp_lex.specs.Forms.{is_text}
 use Rattle.mp_lex.specs.Lex.{Lexing, checked, string_len, mark_len, mark_front, ended_comment, comment_of, variable_of, begins_with, depth_after, front_of, go_on, lex, lex_from, with_front}
 use Rattle.mp_lex.proofs.Cuts.{Keeps, kept, prefix_take}
@@ -43,7 +43,7 @@ comment_leads bs (c ∷ rest) =
 
 variable_leads : (bs : List ℕ) → Leads (39 ∷ bs) (variable_of (39 ∷ bs) bs)
 variable_leads bs =
-    let n = 1 + prefix_len is_word bs in
+    let n = 1 + prefix_len is_word_byte bs in
     branch (Leads (39 ∷ bs)) (begins_with is_small bs) (checked SmallVar LongName n (39 ∷ bs)) _ (λ _. checked_leads SmallVar LongName n (39 ∷ bs))
     (λ _. branch (Leads (39 ∷ bs)) (begins_with is_cap bs) (checked CapVar LongName n (39 ∷ bs)) (front.Bad 0 BadByte) (λ _. checked_leads CapVar LongName n (39 ∷ bs)) (λ _. tt))
 
@@ -54,7 +54,7 @@ mark_leads bytes (suc n) = tt
 leads : (b : ℕ) (bs : List ℕ) → Leads (b ∷ bs) (front_of (b ∷ bs))
 leads b bs =
     let P = Leads (b ∷ bs) in
-    let words = prefix_len is_word (b ∷ bs) in
+    let words = prefix_len is_word_byte (b ∷ bs) in
     let digits = prefix_len is_digit (b ∷ bs) in
     branch P (is_small b) (checked Small LongName words (b ∷ bs)) _ (λ _. checked_leads Small LongName words (b ∷ bs))
     (λ _. branch P (is_cap b) (checked Cap LongName words (b ∷ bs)) _ (λ _. checked_leads Cap LongName words (b ∷ bs))

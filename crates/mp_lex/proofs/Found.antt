@@ -13,8 +13,8 @@ use Rattle.mp_lex.specs.declared.token.LexWhy.{LexWhy}
 use Rattle.mp_lex.specs.declared.token.LexWhy.TheVariants.{BadByte, LongName, BadNumber, BadString}
 use Rattle.mp_lex.specs.declared.front.Front.{Front}
 use Rattle.mp_lex.specs.declared.front.Front.TheVariants as front
-use Rattle.mp_lex.specs.Bytes.{is_small, is_cap, is_digit, is_word, is_blank, is_comment, is_opening, is_closing, is_single_mark}
-use Rattle.mp_lex.specs.Forms.{is_mark, is_text}
+use Rattle.mp_lex.specs.Bytes.{is_small, is_cap, is_digit, is_word_byte, is_blank, is_comment, is_opening, is_closing, is_single_mark}
+use Rattle.mp_lex.specs.Forms.{is_mark_text, is_text}
 use Rattle.mp_lex.specs.Lex.{checked, string_len, mark_len, mark_front, ended_comment, comment_of, variable_of, begins_with, front_of}
 use Rattle.mp_lex.specs.Spans.{only_separators}
 use Rattle.mp_lex.proofs.Runs.{take_next}
@@ -113,15 +113,15 @@ comment_right bs = ended_right bs (drop (prefix_len is_comment bs) bs) refl
 
 variable_right : (bs : List ℕ) → IsRight (39 ∷ bs) (variable_of (39 ∷ bs) bs)
 variable_right bs =
-    let n = 1 + prefix_len is_word bs in
-    let most : n ≤ length (39 ∷ bs) = omega (arith, prefix_len-le-length is_word bs) in
+    let n = 1 + prefix_len is_word_byte bs in
+    let most : n ≤ length (39 ∷ bs) = omega (arith, prefix_len-le-length is_word_byte bs) in
     branch (IsRight (39 ∷ bs)) (begins_with is_small bs) (checked SmallVar LongName n (39 ∷ bs)) _ (λ _. checked_right SmallVar LongName n (39 ∷ bs) (omega arith) most)
     (λ _. branch (IsRight (39 ∷ bs)) (begins_with is_cap bs) (checked CapVar LongName n (39 ∷ bs)) (front.Bad 0 BadByte) (λ _. checked_right CapVar LongName n (39 ∷ bs) (omega arith) most) (λ _. tt))
 
 -- a length of a mark at the front, or 0
 abbrev IsMarkLen : List ℕ → ℕ → Type 0
 IsMarkLen bytes zero = Unit {0}
-IsMarkLen bytes (suc n) = (suc n ≤ length bytes) × (is_mark (take (suc n) bytes) ≡ true)
+IsMarkLen bytes (suc n) = (suc n ≤ length bytes) × (is_mark_text (take (suc n) bytes) ≡ true)
 
 mark_right : (bytes : List ℕ) (n : ℕ) → IsMarkLen bytes n → IsRight bytes (mark_front n)
 mark_right bytes zero h = tt
@@ -143,9 +143,9 @@ pub either : {P : Type 0} (s t : Bool) → (s ≡ true → P) → (t ≡ true �
 either true t f g e = f refl
 either false t f g e = g e
 
-single : (b : ℕ) → is_single_mark b ≡ true → is_mark (b ∷ []) ≡ true
+single : (b : ℕ) → is_single_mark b ≡ true → is_mark_text (b ∷ []) ≡ true
 single b =
-    let this : (c : ℕ) → is_mark (c ∷ []) ≡ true → nat_eq b c ≡ true → is_mark (b ∷ []) ≡ true = λ c h e. subst (λ x. is_mark (x ∷ []) ≡ true) (sym (eqb-true b c e)) h in
+    let this : (c : ℕ) → is_mark_text (c ∷ []) ≡ true → nat_eq b c ≡ true → is_mark_text (b ∷ []) ≡ true = λ c h e. subst (λ x. is_mark_text (x ∷ []) ≡ true) (sym (eqb-true b c e)) h in
     either _ _ (either _ _ (either _ _ (either _ _ (either _ _ (either _ _
     (either (is_opening b) (is_closing b) (either _ _ (either _ _ (this 40 refl) (this 91 refl)) (this 123 refl)) (either _ _ (either _ _ (this 41 refl) (this 93 refl)) (this 125 refl)))
     (this 38 refl)) (this 44 refl)) (this 59 refl)) (this 46 refl)) (this 64 refl)) (this 124 refl)
@@ -164,11 +164,11 @@ mark_len_right b bs =
 pub found_right : (b : ℕ) (bs : List ℕ) → IsRight (b ∷ bs) (front_of (b ∷ bs))
 found_right b bs =
     let P = IsRight (b ∷ bs) in
-    let words = prefix_len is_word (b ∷ bs) in
+    let words = prefix_len is_word_byte (b ∷ bs) in
     let digits = prefix_len is_digit (b ∷ bs) in
-    let all : words ≤ length (b ∷ bs) = prefix_len-le-length is_word (b ∷ bs) in
-    branch P (is_small b) (checked Small LongName words (b ∷ bs)) _ (λ e. let n : words ≡ 1 + prefix_len is_word bs = word_run b bs (small_word b e) in checked_right Small LongName words (b ∷ bs) (omega (arith, n)) all)
-    (λ _. branch P (is_cap b) (checked Cap LongName words (b ∷ bs)) _ (λ e. let n : words ≡ 1 + prefix_len is_word bs = word_run b bs (cap_word b e) in checked_right Cap LongName words (b ∷ bs) (omega (arith, n)) all)
+    let all : words ≤ length (b ∷ bs) = prefix_len-le-length is_word_byte (b ∷ bs) in
+    branch P (is_small b) (checked Small LongName words (b ∷ bs)) _ (λ e. let n : words ≡ 1 + prefix_len is_word_byte bs = word_run b bs (small_word b e) in checked_right Small LongName words (b ∷ bs) (omega (arith, n)) all)
+    (λ _. branch P (is_cap b) (checked Cap LongName words (b ∷ bs)) _ (λ e. let n : words ≡ 1 + prefix_len is_word_byte bs = word_run b bs (cap_word b e) in checked_right Cap LongName words (b ∷ bs) (omega (arith, n)) all)
     (λ _. branch P (is_digit b) (checked Num BadNumber digits (b ∷ bs)) _
     (λ e. let n : digits ≡ 1 + prefix_len is_digit bs = yes (is_digit b) (1 + prefix_len is_digit bs) 0 e in checked_right Num BadNumber digits (b ∷ bs) (omega (arith, n)) (prefix_len-le-length is_digit (b ∷ bs)))
     (λ _. branch P (is_blank b) (front.Passed 1) _ (λ e. blank_right b bs e)

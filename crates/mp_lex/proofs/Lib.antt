@@ -2,7 +2,7 @@ pub mod Cuts
 pub mod FirstFault
 pub mod Found
 pub mod Fronts
-pub mod Laws
+pub mod TokenLaws
 pub mod Longest
 pub mod Passes
 pub mod Runs

@@ -13,8 +13,8 @@ use Rattle.mp_lex.specs.declared.token.LexWhy.{LexWhy}
 use Rattle.mp_lex.specs.declared.token.LexWhy.TheVariants.{LongName, BadNumber, BadString}
 use Rattle.mp_lex.specs.declared.front.Front.{Front}
 use Rattle.mp_lex.specs.declared.front.Front.TheVariants as front
-use Rattle.mp_lex.specs.Bytes.{is_small, is_cap, is_digit, is_word, is_printed}
-use Rattle.mp_lex.specs.Forms.{closes, is_mark, is_name, is_negative, is_number, is_positive, is_string, is_text, is_variable_text, marks, number_of_digits}
+use Rattle.mp_lex.specs.Bytes.{is_small, is_cap, is_digit, is_word_byte, is_printed}
+use Rattle.mp_lex.specs.Forms.{closes, is_mark_text, is_name, is_negative, is_number, is_positive, is_string, is_text, is_variable_text, mark_texts, number_of_digits}
 use Rattle.mp_lex.specs.Lex.{checked, string_len, mark_front, variable_of, front_of}
 use Rattle.mp_lex.proofs.Found.{branch, either}
 use Rattle.mp_lex.proofs.Fronts.{cap_word, no, small_word, word_run, yes}
@@ -39,10 +39,10 @@ run_covers p (suc n) (x ∷ xs) h e =
     omega (arith, rest, all)
 
 -- the bytes of a name, by its first and the rest
-name_parts : (begins : ℕ → Bool) (b : ℕ) (bs : List ℕ) → is_name begins (b ∷ bs) ≡ true → (begins b ≡ true) × (list_all is_word bs ≡ true)
+name_parts : (begins : ℕ → Bool) (b : ℕ) (bs : List ℕ) → is_name begins (b ∷ bs) ≡ true → (begins b ≡ true) × (list_all is_word_byte bs ≡ true)
 name_parts begins b bs e =
-    let parts = and_parts (begins b && list_all is_word bs) (nat_lt (length bs) 64) e in
-    and_parts (begins b) (list_all is_word bs) parts.0
+    let parts = and_parts (begins b && list_all is_word_byte bs) (nat_lt (length bs) 64) e in
+    and_parts (begins b) (list_all is_word_byte bs) parts.0
 
 small_no_cap : (b : ℕ) → is_cap b ≡ true → is_small b ≡ false
 small_no_cap b e = grind (arith, nat_tests)
@@ -53,10 +53,10 @@ digit_no_small b e = grind (arith, nat_tests)
 digit_no_cap : (b : ℕ) → is_digit b ≡ true → is_cap b ≡ false
 digit_no_cap b e = grind (arith, nat_tests)
 
-word_covers : (n b : ℕ) (bs : List ℕ) → n ≤ length bs → list_all is_word (take n bs) ≡ true → is_word b ≡ true → suc n ≤ prefix_len is_word (b ∷ bs)
+word_covers : (n b : ℕ) (bs : List ℕ) → n ≤ length bs → list_all is_word_byte (take n bs) ≡ true → is_word_byte b ≡ true → suc n ≤ prefix_len is_word_byte (b ∷ bs)
 word_covers n b bs h e w =
-    let rest : n ≤ prefix_len is_word bs = run_covers is_word n bs h e in
-    let all : prefix_len is_word (b ∷ bs) ≡ 1 + prefix_len is_word bs = word_run b bs w in
+    let rest : n ≤ prefix_len is_word_byte bs = run_covers is_word_byte n bs h e in
+    let all : prefix_len is_word_byte (b ∷ bs) ≡ 1 + prefix_len is_word_byte bs = word_run b bs w in
     omega (arith, rest, all)
 
 covers_small : (n : ℕ) (bytes : List ℕ) → n ≤ length bytes → is_name is_small (take n bytes) ≡ true → Covers n (front_of bytes)
@@ -65,7 +65,7 @@ covers_small (suc n) [] h e = absurd (omega (arith, h))
 covers_small (suc n) (b ∷ bs) h e =
     let parts = name_parts is_small b (take n bs) e in
     let long = word_covers n b bs (omega (arith, h)) parts.1 (small_word b parts.0) in
-    subst (Covers (suc n)) (sym (yes (is_small b) _ _ parts.0)) (checked_covers Small LongName (suc n) (prefix_len is_word (b ∷ bs)) (b ∷ bs) long)
+    subst (Covers (suc n)) (sym (yes (is_small b) _ _ parts.0)) (checked_covers Small LongName (suc n) (prefix_len is_word_byte (b ∷ bs)) (b ∷ bs) long)
 
 covers_cap : (n : ℕ) (bytes : List ℕ) → n ≤ length bytes → is_name is_cap (take n bytes) ≡ true → Covers n (front_of bytes)
 covers_cap zero bytes h e = absurd (true≢false (sym e))
@@ -73,7 +73,7 @@ covers_cap (suc n) [] h e = absurd (omega (arith, h))
 covers_cap (suc n) (b ∷ bs) h e =
     let parts = name_parts is_cap b (take n bs) e in
     let long = word_covers n b bs (omega (arith, h)) parts.1 (cap_word b parts.0) in
-    subst (Covers (suc n)) (sym (no (is_small b) _ _ (small_no_cap b parts.0) ∙ yes (is_cap b) _ _ parts.0)) (checked_covers Cap LongName (suc n) (prefix_len is_word (b ∷ bs)) (b ∷ bs) long)
+    subst (Covers (suc n)) (sym (no (is_small b) _ _ (small_no_cap b parts.0) ∙ yes (is_cap b) _ _ parts.0)) (checked_covers Cap LongName (suc n) (prefix_len is_word_byte (b ∷ bs)) (b ∷ bs) long)
 
 covers_digits : (n : ℕ) (bytes : List ℕ) → n ≤ length bytes → 0 < n → list_all is_digit (take n bytes) ≡ true → Covers n (front_of bytes)
 covers_digits zero bytes h pos e = absurd (omega (arith, pos))
@@ -90,7 +90,7 @@ covers_small_variable (suc n) [] h e = absurd (omega (arith, h))
 covers_small_variable (suc n) (b ∷ bs) h e =
     let parts = name_parts is_small b (take n bs) e in
     let long = word_covers n b bs (omega (arith, h)) parts.1 (small_word b parts.0) in
-    let m = 1 + prefix_len is_word (b ∷ bs) in
+    let m = 1 + prefix_len is_word_byte (b ∷ bs) in
     subst (Covers (suc (suc n))) (sym (yes (is_small b) _ _ parts.0)) (checked_covers SmallVar LongName (suc (suc n)) m (39 ∷ b ∷ bs) (omega (arith, long)))
 
 covers_cap_variable : (n : ℕ) (bs : List ℕ) → n ≤ length bs → is_name is_cap (take n bs) ≡ true → Covers (suc n) (variable_of (39 ∷ bs) bs)
@@ -99,7 +99,7 @@ covers_cap_variable (suc n) [] h e = absurd (omega (arith, h))
 covers_cap_variable (suc n) (b ∷ bs) h e =
     let parts = name_parts is_cap b (take n bs) e in
     let long = word_covers n b bs (omega (arith, h)) parts.1 (cap_word b parts.0) in
-    let m = 1 + prefix_len is_word (b ∷ bs) in
+    let m = 1 + prefix_len is_word_byte (b ∷ bs) in
     subst (Covers (suc (suc n))) (sym (no (is_small b) _ _ (small_no_cap b parts.0) ∙ yes (is_cap b) _ _ parts.0)) (checked_covers CapVar LongName (suc (suc n)) m (39 ∷ b ∷ bs) (omega (arith, long)))
 
 -- where the first byte is this one
@@ -195,7 +195,7 @@ short : (n : ℕ) (rest tail : List ℕ) → 0 < n → Covers 1 (mark_front (if 
 short zero rest tail pos = absurd (omega (arith, pos))
 short (suc n) rest tail pos = branch (λ k. Covers 1 (mark_front k)) (starts_with nat_eq rest tail) (suc n) 1 (λ _. omega arith) (λ _. omega arith)
 
-each_mark : EachFound marks
+each_mark : EachFound mark_texts
 each_mark =
     let one : 1 ≤ 1 = omega arith in
     let two : 2 ≤ 2 = omega arith in
@@ -231,8 +231,8 @@ each_mark =
       ),
     )
 
-covers_mark : (n : ℕ) (bytes : List ℕ) → n ≤ length bytes → is_mark (take n bytes) ≡ true → Covers n (front_of bytes)
-covers_mark = covers_any marks each_mark
+covers_mark : (n : ℕ) (bytes : List ℕ) → n ≤ length bytes → is_mark_text (take n bytes) ≡ true → Covers n (front_of bytes)
+covers_mark = covers_any mark_texts each_mark
 
 covers : (kind : Kind) (n : ℕ) (bytes : List ℕ) → n ≤ length bytes → is_text kind (take n bytes) ≡ true → Covers n (front_of bytes)
 covers Small n bytes h e = covers_small n bytes h e

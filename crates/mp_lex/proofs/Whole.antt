@@ -10,7 +10,7 @@ use Rattle.mp_lex.specs.declared.token.Token.{Token}
 use Rattle.mp_lex.specs.declared.token.LexWhy.{LexWhy}
 use Rattle.mp_lex.specs.declared.token.LexWhy.TheVariants.{BadNumber, BadString, LongName, TooNested}
 use Rattle.mp_lex.specs.declared.front.Front.TheVariants as front
-use Rattle.mp_lex.specs.Bytes.{is_cap, is_digit, is_opening, is_small, is_word}
+use Rattle.mp_lex.specs.Bytes.{is_cap, is_digit, is_opening, is_small, is_word_byte}
 use Rattle.mp_lex.specs.Forms.{is_name, is_number, is_text}
 use Rattle.mp_lex.specs.Lex.{begins_with, checked, depth_after, front_of, go_on, lex_from, string_len, with_front}
 use Rattle.mp_lex.proofs.Fronts.{no, small_word, yes}
@@ -57,35 +57,35 @@ checked_whole k why n cs rest e h =
     ap (λ j. checked k why j (cs ++ rest)) e ∙ ap (λ xs. if is_text k xs then front.Token k (length cs) else front.Bad 0 why) (take_whole cs rest) ∙ ap (λ b. if b then front.Token k (length cs) else front.Bad 0 why) h
 
 small_first : (c : ℕ) (cs : List ℕ) → is_name is_small (c ∷ cs) ≡ true → is_small c ≡ true
-small_first c cs h = (and_parts (is_small c) (list_all is_word cs) (and_parts (is_small c && list_all is_word cs) (nat_lt (length cs) 64) h).0).0
+small_first c cs h = (and_parts (is_small c) (list_all is_word_byte cs) (and_parts (is_small c && list_all is_word_byte cs) (nat_lt (length cs) 64) h).0).0
 
-all_words : (c : ℕ) (cs : List ℕ) → is_name is_small (c ∷ cs) ≡ true → list_all is_word (c ∷ cs) ≡ true
+all_words : (c : ℕ) (cs : List ℕ) → is_name is_small (c ∷ cs) ≡ true → list_all is_word_byte (c ∷ cs) ≡ true
 all_words c cs h =
-    let both = and_parts (is_small c) (list_all is_word cs) (and_parts (is_small c && list_all is_word cs) (nat_lt (length cs) 64) h).0 in
+    let both = and_parts (is_small c) (list_all is_word_byte cs) (and_parts (is_small c && list_all is_word_byte cs) (nat_lt (length cs) 64) h).0 in
     let word = small_word c both.0 in
     rw word both.1
 
-pub small_begins : (c : ℕ) (cs rest : List ℕ) → is_name is_small (c ∷ cs) ≡ true → begins_with is_word rest ≡ false → Begins Small (suc (length cs)) (c ∷ (cs ++ rest))
+pub small_begins : (c : ℕ) (cs rest : List ℕ) → is_name is_small (c ∷ cs) ≡ true → begins_with is_word_byte rest ≡ false → Begins Small (suc (length cs)) (c ∷ (cs ++ rest))
 small_begins c cs rest h d =
     let small = small_first c cs h in
-    yes (is_small c) _ _ small ∙ (checked_whole Small LongName (prefix_len is_word (c ∷ (cs ++ rest))) (c ∷ cs) rest (prefix_whole is_word (c ∷ cs) rest (all_words c cs h) d) h)
+    yes (is_small c) _ _ small ∙ (checked_whole Small LongName (prefix_len is_word_byte (c ∷ (cs ++ rest))) (c ∷ cs) rest (prefix_whole is_word_byte (c ∷ cs) rest (all_words c cs h) d) h)
 
-pub variable_begins : (cs rest : List ℕ) → is_name is_small cs ≡ true → begins_with is_word rest ≡ false → Begins SmallVar (suc (length cs)) (39 ∷ (cs ++ rest))
+pub variable_begins : (cs rest : List ℕ) → is_name is_small cs ≡ true → begins_with is_word_byte rest ≡ false → Begins SmallVar (suc (length cs)) (39 ∷ (cs ++ rest))
 variable_begins [] rest h d = absurd (true≢false (sym h))
 variable_begins (c ∷ cs) rest h d =
     let small = small_first c cs h in
-    let run = prefix_whole is_word (c ∷ cs) rest (all_words c cs h) d in
-    let n : 1 + prefix_len is_word (c ∷ (cs ++ rest)) ≡ length (39 ∷ c ∷ cs) = omega (arith, run) in
-    yes (is_small c) _ _ small ∙ (checked_whole SmallVar LongName (1 + prefix_len is_word (c ∷ (cs ++ rest))) (39 ∷ c ∷ cs) rest n h)
+    let run = prefix_whole is_word_byte (c ∷ cs) rest (all_words c cs h) d in
+    let n : 1 + prefix_len is_word_byte (c ∷ (cs ++ rest)) ≡ length (39 ∷ c ∷ cs) = omega (arith, run) in
+    yes (is_small c) _ _ small ∙ (checked_whole SmallVar LongName (1 + prefix_len is_word_byte (c ∷ (cs ++ rest))) (39 ∷ c ∷ cs) rest n h)
 
 digit_first : (c : ℕ) → is_digit c ≡ true → (is_small c ≡ false) × (is_cap c ≡ false)
 digit_first c h = (grind (arith, nat_tests, h), grind (arith, nat_tests, h))
 
-no_digit : (rest : List ℕ) → begins_with is_word rest ≡ false → begins_with is_digit rest ≡ false
+no_digit : (rest : List ℕ) → begins_with is_word_byte rest ≡ false → begins_with is_digit rest ≡ false
 no_digit [] d = refl
 no_digit (b ∷ rest) d = grind (arith, nat_tests, d)
 
-pub digits_begin : (c : ℕ) (cs rest : List ℕ) → list_all is_digit (c ∷ cs) ≡ true → is_number (c ∷ cs) ≡ true → begins_with is_word rest ≡ false → Begins Num (suc (length cs)) (c ∷ (cs ++ rest))
+pub digits_begin : (c : ℕ) (cs rest : List ℕ) → list_all is_digit (c ∷ cs) ≡ true → is_number (c ∷ cs) ≡ true → begins_with is_word_byte rest ≡ false → Begins Num (suc (length cs)) (c ∷ (cs ++ rest))
 digits_begin c cs rest h n d =
     let digit = (and_parts (is_digit c) (list_all is_digit cs) h).0 in
     let others = digit_first c digit in
@@ -94,7 +94,7 @@ digits_begin c cs rest h n d =
     let found = checked_whole Num BadNumber (prefix_len is_digit (c ∷ (cs ++ rest))) (c ∷ cs) rest (prefix_whole is_digit (c ∷ cs) rest h (no_digit rest d)) n in
     no (is_small c) _ _ small ∙ no (is_cap c) _ _ cap ∙ yes (is_digit c) _ _ digit ∙ found
 
-pub negative_begins : (c : ℕ) (cs rest : List ℕ) → list_all is_digit (c ∷ cs) ≡ true → is_number (45 ∷ c ∷ cs) ≡ true → begins_with is_word rest ≡ false → Begins Num (suc (length (c ∷ cs))) (45 ∷ c ∷ (cs ++ rest))
+pub negative_begins : (c : ℕ) (cs rest : List ℕ) → list_all is_digit (c ∷ cs) ≡ true → is_number (45 ∷ c ∷ cs) ≡ true → begins_with is_word_byte rest ≡ false → Begins Num (suc (length (c ∷ cs))) (45 ∷ c ∷ (cs ++ rest))
 negative_begins c cs rest h n d =
     let digit = (and_parts (is_digit c) (list_all is_digit cs) h).0 in
     let run = prefix_whole is_digit (c ∷ cs) rest h (no_digit rest d) in

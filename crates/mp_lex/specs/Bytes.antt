@@ -14,8 +14,8 @@ abbrev pub is_digit : ℕ → Bool
 is_digit b = nat_le 48 b && nat_le b 57
 
 -- a letter, a digit or `_`
-abbrev pub is_word : ℕ → Bool
-is_word b = is_small b || is_cap b || is_digit b || nat_eq b 95
+abbrev pub is_word_byte : ℕ → Bool
+is_word_byte b = is_small b || is_cap b || is_digit b || nat_eq b 95
 
 -- a space, a tab, a newline or a carriage return
 abbrev pub is_blank : ℕ → Bool

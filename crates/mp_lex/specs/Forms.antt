@@ -5,12 +5,12 @@ use Rattle.std.specs.List.{list_all, list_any}
 use Rattle.mp_lex.specs.declared.token.Kind.{Kind}
 use Rattle.mp_lex.specs.declared.token.Kind.TheVariants.{Small, Cap, SmallVar, CapVar, Num, Str, Mark}
 use Rattle.mp_lex.specs.declared.limits.TheConstants.{LONGEST_NAME, LONGEST_STRING}
-use Rattle.mp_lex.specs.Bytes.{is_small, is_cap, is_digit, is_word, is_printed}
+use Rattle.mp_lex.specs.Bytes.{is_small, is_cap, is_digit, is_word_byte, is_printed}
 
 -- a name: a letter that may begin it, then letters, digits and `_`, at most 64 bytes
 abbrev pub is_name : (ℕ → Bool) → List ℕ → Bool
 is_name begins [] = false
-is_name begins (b ∷ bs) = begins b && list_all is_word bs && nat_lt (length bs) LONGEST_NAME
+is_name begins (b ∷ bs) = begins b && list_all is_word_byte bs && nat_lt (length bs) LONGEST_NAME
 
 -- a variable: `'` directly followed by a name
 abbrev pub is_variable_text : (ℕ → Bool) → List ℕ → Bool
@@ -48,14 +48,14 @@ is_string [] = false
 is_string (b ∷ bs) = nat_eq b 34 && closes false bs && nat_le (length bs) (LONGEST_STRING + 1)
 
 -- the marks of all grammars
-abbrev pub marks : List (List ℕ)
-marks =
+abbrev pub mark_texts : List (List ℕ)
+mark_texts =
     codes "{" ∷ codes "}" ∷ codes "[" ∷ codes "]" ∷ codes "(" ∷ codes ")" ∷ codes "<" ∷ codes ">" ∷ codes ">-" ∷ codes "==>"
     ∷ codes "-->" ∷ codes "<->" ∷ codes "&" ∷ codes "," ∷ codes ";" ∷ codes ":" ∷ codes ":=" ∷ codes "." ∷ codes "@" ∷ codes "|" ∷ []
 
 -- whether these bytes are a mark
-abbrev pub is_mark : List ℕ → Bool
-is_mark bs = list_any (λ m. pointwise nat_eq m bs) marks
+abbrev pub is_mark_text : List ℕ → Bool
+is_mark_text bs = list_any (λ m. pointwise nat_eq m bs) mark_texts
 
 -- whether these bytes are the whole text of a token of this kind
 abbrev pub is_text : Kind → List ℕ → Bool
@@ -65,4 +65,4 @@ is_text SmallVar bs = is_variable_text is_small bs
 is_text CapVar bs = is_variable_text is_cap bs
 is_text Num bs = is_number bs
 is_text Str bs = is_string bs
-is_text Mark bs = is_mark bs
+is_text Mark bs = is_mark_text bs

@@ -1,17 +1,17 @@
 -- The tokens of a text, or its first lexical fault.
-use Rattle.std.specs.Prelude.{◌≡◌, ℕ, zero, suc, ◌+◌, ◌-◌, ◌++◌, ◌<◌, ◌≤◌, List, [], ◌∷◌, take, drop, codes, Result, Ok, Err, Bool, true, false, nat_le, nat_eq, ◌&&◌, if◌then◌else◌}
+use Rattle.std.specs.Prelude.{◌≡◌, ℕ, zero, suc, ◌+◌, ◌-◌, ◌++◌, ◌<◌, ◌≤◌, List, [], ◌∷◌, take, drop, codes, Result, Ok, Err, Bool, true, false, get_or, nat_le, nat_eq, ◌&&◌, if◌then◌else◌}
 use Rattle.std.specs.List.{prefix_len, starts_with}
 use Rattle.mp_lex.specs.declared.token.Kind.{Kind}
 use Rattle.mp_lex.specs.declared.token.Kind.TheVariants.{Small, Cap, SmallVar, CapVar, Num, Str, Mark}
 use Rattle.mp_lex.specs.declared.token.Token.{Token}
 use Rattle.mp_lex.specs.declared.token.LexWhy.{LexWhy}
 use Rattle.mp_lex.specs.declared.token.LexWhy.TheVariants.{BadByte, LongName, BadNumber, BadString, TooNested}
-use Rattle.mp_lex.specs.declared.token.LexFail.{LexFail}
-use Rattle.mp_lex.specs.declared.token.LexFail.TheVariants as fail
+use Rattle.mp_lex.specs.declared.token.Next.{Next}
+use Rattle.mp_lex.specs.declared.token.Next.TheVariants as next
 use Rattle.mp_lex.specs.declared.front.Front.{Front}
 use Rattle.mp_lex.specs.declared.front.Front.TheVariants as front
 use Rattle.mp_lex.specs.declared.limits.TheConstants.{MOST_OPEN}
-use Rattle.mp_lex.specs.Bytes.{is_small, is_cap, is_digit, is_word, is_blank, is_comment, is_opening, is_closing, is_single_mark}
+use Rattle.mp_lex.specs.Bytes.{is_small, is_cap, is_digit, is_word_byte, is_blank, is_comment, is_opening, is_closing, is_single_mark}
 use Rattle.mp_lex.specs.Forms.{is_text}
 
 -- a token of this kind if the bytes that go together are a text of the kind, and else the fault
@@ -58,16 +58,16 @@ comment_of bytes = let n = prefix_len is_comment bytes in ended_comment (1 + n) 
 -- what stands at a `'`, with the letters, digits and `_` after it
 abbrev pub variable_of : List ℕ → List ℕ → Front
 variable_of bytes rest =
-    if begins_with is_small rest then checked SmallVar LongName (1 + prefix_len is_word rest) bytes
-    else if begins_with is_cap rest then checked CapVar LongName (1 + prefix_len is_word rest) bytes
+    if begins_with is_small rest then checked SmallVar LongName (1 + prefix_len is_word_byte rest) bytes
+    else if begins_with is_cap rest then checked CapVar LongName (1 + prefix_len is_word_byte rest) bytes
     else front.Bad 0 BadByte
 
 -- what stands at the front of a text
 abbrev pub front_of : List ℕ → Front
 front_of [] = front.Bad 0 BadByte
 front_of (b ∷ bs) =
-    if is_small b then checked Small LongName (prefix_len is_word (b ∷ bs)) (b ∷ bs)
-    else if is_cap b then checked Cap LongName (prefix_len is_word (b ∷ bs)) (b ∷ bs)
+    if is_small b then checked Small LongName (prefix_len is_word_byte (b ∷ bs)) (b ∷ bs)
+    else if is_cap b then checked Cap LongName (prefix_len is_word_byte (b ∷ bs)) (b ∷ bs)
     else if is_digit b then checked Num BadNumber (prefix_len is_digit (b ∷ bs)) (b ∷ bs)
     else if is_blank b then front.Passed 1
     else if nat_eq b 35 then comment_of bs
@@ -113,12 +113,37 @@ lex_from zero depth at (b ∷ bs) = go_on (front_of (b ∷ bs)) depth at b (λ n
 abbrev pub lex : List ℕ → Lexing
 lex source = lex_from 0 0 0 source
 
+-- the tokens before what is found at a place, up to a fault: none there, or one and those behind it
+abbrev pub found_on : Front → ℕ → ℕ → ℕ → (ℕ → ℕ → List Token) → List Token
+found_on (front.Passed len) depth at b go = go (len - 1) depth
+found_on (front.Bad ahead why) depth at b go = []
+found_on (front.Token kind len) depth at b go =
+    if is_opening b && nat_le MOST_OPEN depth then [] else record { kind = kind; from = at; to = at + len } ∷ go (len - 1) (depth_after depth b)
+
+-- the tokens from a place on, up to a fault: so many bytes belong to what was found before, and so many brackets are open
+abbrev pub found_from : ℕ → ℕ → ℕ → List ℕ → List Token
+found_from skip depth at [] = []
+found_from (suc k) depth at (b ∷ bs) = found_from k depth (at + 1) bs
+found_from zero depth at (b ∷ bs) = found_on (front_of (b ∷ bs)) depth at b (λ n o. found_from n o (at + 1) bs)
+
+-- the tokens of a text up to its first fault, or all of them
+abbrev pub found : List ℕ → List Token
+found source = found_from 0 0 0 source
+
 -- the bytes of a token in its text
 abbrev pub token_text : List ℕ → Token → List ℕ
 token_text source t = take (t.to - t.from) (drop t.from source)
 
--- a lexer's answer is the reading of the text, or want of memory
-abbrev pub Gives : Lexing → Result (List Token) LexFail → Type 0
-Gives reading (Ok ts) = reading ≡ Ok ts
-Gives reading (Err (fail.Bad at why)) = reading ≡ Err (at, why)
-Gives reading (Err fail.NoMemory) = Unit {0}
+-- what comes next from a place on, where so many brackets are open: a token, and the reading goes on behind it; or the end; or a fault
+abbrev pub IsNext : List ℕ → ℕ → ℕ → Next → Type 0
+IsNext source at depth (next.Token t) =
+    (lex_from 0 depth at (drop at source) ≡ with_front (t ∷ []) (lex_from 0 (depth_after depth (get_or source t.from 0)) t.to (drop t.to source)))
+    × (found_from 0 depth at (drop at source) ≡ t ∷ found_from 0 (depth_after depth (get_or source t.from 0)) t.to (drop t.to source))
+IsNext source at depth next.End = (lex_from 0 depth at (drop at source) ≡ Ok []) × (found_from 0 depth at (drop at source) ≡ [])
+IsNext source at depth (next.Bad place why) = (lex_from 0 depth at (drop at source) ≡ Err (place, why)) × (found_from 0 depth at (drop at source) ≡ [])
+
+-- what comes next has this, if it is a token
+abbrev pub IfToken : Next → (Token → Type 0) → Type 0
+IfToken (next.Token t) P = P t
+IfToken next.End P = Unit {0}
+IfToken (next.Bad at why) P = Unit {0}

@@ -1,12 +1,11 @@
 -- What the tokens of a text are like, and the place of its fault.
-use Rattle.std.specs.Prelude.{◌≡◌, ℕ, ◌-◌, ◌<◌, ◌≤◌, List, [], ◌∷◌, length, take, drop, slice_get, Some, IsOk, Bool, true, false, not, nat_eq, ◌&&◌, ◌||◌, if◌then◌else◌, IsTrue}
+use Rattle.std.specs.Prelude.{◌≡◌, ℕ, ◌-◌, ◌<◌, ◌≤◌, List, [], ◌∷◌, length, take, drop, slice_get, Some, IsOk, Ok, Err, Bool, true, false, not, nat_eq, ◌&&◌, ◌||◌, if◌then◌else◌, IsTrue}
 use Rattle.mp_lex.specs.declared.token.Kind.{Kind}
 use Rattle.mp_lex.specs.declared.token.Token.{Token}
-use Rattle.mp_lex.specs.declared.token.LexFail.{LexFail}
-use Rattle.mp_lex.specs.declared.token.LexFail.TheVariants as fail
+use Rattle.mp_lex.specs.declared.token.LexWhy.{LexWhy}
 use Rattle.mp_lex.specs.Bytes.{is_blank, is_comment}
 use Rattle.mp_lex.specs.Forms.{is_text}
-use Rattle.mp_lex.specs.Lex.{lex, token_text}
+use Rattle.mp_lex.specs.Lex.{found, lex, token_text}
 
 -- each token of a list has this
 abbrev pub EachToken : (Token → Type 0) → List Token → Type 0
@@ -41,7 +40,23 @@ abbrev pub AreSeparated : List ℕ → ℕ → List Token → Type 0
 AreSeparated source from [] = IsTrue (only_separators true false (drop from source))
 AreSeparated source from (t ∷ ts) = IsTrue (only_separators false false (take (t.from - from) (drop from source))) × AreSeparated source t.to ts
 
+-- what the tokens of a text are like: each lies within it, is of its kind and the longest there; they are in order, with separators and comments between them alone, and no more than the bytes
+pub record AreTokens (source : List ℕ) (ts : List Token) : Type 0 where
+  pub spans : EachToken (IsSpan source) ts
+  pub kinds : EachToken (HasItsKind source) ts
+  pub longest : EachToken (IsLongest source) ts
+  pub order : InOrder ts
+  pub between : AreSeparated source 0 ts
+  pub few : length ts ≤ length source
+
+-- what the reading of a text is like
+abbrev pub TokensAre : Type 0
+TokensAre = (source : List ℕ) (ts : List Token) → lex source ≡ Ok ts → AreTokens source ts
+
 -- a fault is the first one of its text: what stands before its place has none
-abbrev pub IsFirstFault : List ℕ → LexFail → Type 0
-IsFirstFault source (fail.Bad at why) = (at ≤ length source) × IsOk (lex (take at source))
-IsFirstFault source fail.NoMemory = Unit {0}
+abbrev pub FaultIsFirst : Type 0
+FaultIsFirst = (source : List ℕ) (at : ℕ) (why : LexWhy) → lex source ≡ Err (at, why) → (at ≤ length source) × IsOk (lex (take at source))
+
+-- the tokens of a text without a fault are those that are found in it
+abbrev pub AllAreFound : Type 0
+AllAreFound = (source : List ℕ) (ts : List Token) → lex source ≡ Ok ts → found source ≡ ts

@@ -1,5 +1,5 @@
 ghost use Rattle.std.specs.Prelude.{◌≡◌};
-ghost use Rattle.mp_lex.specs.Bytes.{is_small, is_cap, is_digit, is_word, is_blank, is_printed, is_comment, is_opening, is_closing, is_single_mark};
+ghost use Rattle.mp_lex.specs.Bytes.{is_small, is_cap, is_digit, is_word_byte, is_blank, is_printed, is_comment, is_opening, is_closing, is_single_mark};
 
 /// Whether it is a letter a to z.
 pub(crate) fn small(b: u8) -> bool
@@ -24,13 +24,13 @@ pub fn digit(b: u8) -> bool
 
 /// Whether a name goes on with it: a letter, a digit or `_`.
 pub(crate) fn word(b: u8) -> bool
-    ensures { result ≡ is_word b }
+    ensures { result ≡ is_word_byte b }
 {
     small(b) || cap(b) || digit(b) || b == b'_'
 }
 
 /// Whether it separates tokens: a space, a tab, a newline or a carriage return.
-pub(crate) fn blank(b: u8) -> bool
+pub fn blank(b: u8) -> bool
     ensures { result ≡ is_blank b }
 {
     b == b' ' || b == b'\t' || b == b'\n' || b == b'\r'

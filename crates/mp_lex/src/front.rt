@@ -2,7 +2,7 @@ ghost use Rattle.std.specs.Prelude.{◌≡◌, ◌≤◌, ◌<◌, ◌+◌, ◌^
 ghost use Rattle.std.specs.List.{list_all, prefix_len};
 ghost use Rattle.mp_lex.specs.declared.token.Kind.TheVariants.{Str, Num};
 ghost use Rattle.mp_lex.specs.declared.token.LexWhy.TheVariants.{LongName, BadString, BadNumber};
-ghost use Rattle.mp_lex.specs.Bytes.{is_small, is_cap, is_digit, is_word, is_comment};
+ghost use Rattle.mp_lex.specs.Bytes.{is_small, is_cap, is_digit, is_word_byte, is_comment};
 ghost use Rattle.mp_lex.specs.Forms.{is_number, number_of_digits};
 ghost use Rattle.mp_lex.specs.Lex.{checked, string_len, mark_len, mark_front, comment_of, variable_of, front_of, begins_with, IsWithin};
 
@@ -74,7 +74,7 @@ fn name(kind: Kind, quote: usize, len: usize) -> Front
 
 /// How many bytes at the front go on with a name.
 fn word_len(bytes: &[u8]) -> usize
-    ensures value { result ≡ prefix_len is_word bytes.now }
+    ensures value { result ≡ prefix_len is_word_byte bytes.now }
     ensures within { result ≤ length bytes.now }
 {
     for (i, b) in bytes.iter().enumerate() {

@@ -1,63 +1,54 @@
-ghost use Rattle.std.specs.Prelude.{◌≡◌, ◌≤◌, drop, length, nat_le, ◌&&◌, IfErr, IfOk};
+ghost use Rattle.std.specs.Prelude.{◌≡◌, ◌≤◌, drop, get_or, length, nat_le, ◌&&◌};
 ghost use Rattle.mp_lex.specs.Bytes.{is_opening};
-ghost use Rattle.mp_lex.specs.Lex.{lex, Gives, depth_after};
-ghost use Rattle.mp_lex.specs.Spans.{EachToken, IsSpan, HasItsKind, IsLongest, InOrder, AreSeparated, IsFirstFault};
+ghost use Rattle.mp_lex.specs.Lex.{IfToken, IsNext, depth_after};
+ghost use Rattle.mp_lex.specs.Spans.{AllAreFound, FaultIsFirst, HasItsKind, IsSpan, TokensAre};
 
 use crate::byte::{closing, opening};
 use crate::front::{Front, look};
 use crate::limits::MOST_OPEN;
-use crate::{LexFail, LexWhy, Token};
-use mp_logic::List;
-use std::alloc::Global;
+use crate::{LexWhy, Next, Token};
 
-/// The tokens of the text in order, or its first lexical fault. It reads the text once, and takes memory
-/// for the list alone.
-pub fn tokens(alloc: Global, source: &[u8]) -> Result<List<Token>, LexFail>
-    ensures reads { Gives (lex source.now) result }
-    ensures spans { IfOk result (EachToken (IsSpan source.now)) }
-    ensures order { IfOk result InOrder }
-    ensures kinds { IfOk result (EachToken (HasItsKind source.now)) }
-    ensures longest { IfOk result (EachToken (IsLongest source.now)) }
-    ensures between { IfOk result (AreSeparated source.now 0) }
-    ensures few { IfOk result (λ ts. length ts ≤ length source.now) }
-    ensures first { IfErr result (IsFirstFault source.now) }
+/// What comes next in the text from a place on, where so many brackets are open. It takes no memory.
+pub fn next_token(source: &[u8], from: u64, depth: u64) -> Next
+    requires within { from ≤ length source.now }
+    requires shallow { depth ≤ MOST_OPEN }
+    ensures next { IsNext source.now from depth result }
+    ensures behind { IfToken result (λ t. from ≤ t.from) }
+    ensures span { IfToken result (IsSpan source.now) }
+    ensures kind { IfToken result (HasItsKind source.now) }
+    ensures shallow { IfToken result (λ t. depth_after depth (get_or source.now t.from 0) ≤ MOST_OPEN) }
 {
-    let mut tokens = List::new(alloc);
-    let mut at = 0usize;
-    let mut depth = 0u64;
+    let mut at = from as usize;
     while at < source.len() {
         match look(behind(source, at)) {
             Front::Passed(len) => at += len,
             Front::Bad { ahead, why } => {
-                return Err(LexFail::Bad {
-                    at: (at + ahead) as u64,
-                    why,
-                });
+                let at = (at + ahead) as u64;
+                return Next::Bad { at, why };
             }
             Front::Token { kind, len } => {
-                let first = source[at];
-                if too_deep(depth, first) {
-                    return Err(LexFail::Bad {
-                        at: at as u64,
-                        why: LexWhy::TooNested,
-                    });
+                if too_deep(depth, source[at]) {
+                    let why = LexWhy::TooNested;
+                    return Next::Bad { at: at as u64, why };
                 }
-                let token = Token {
+                return Next::Token(Token {
                     kind,
                     from: at as u64,
                     to: (at + len) as u64,
-                };
-                match tokens.push(token) {
-                    Ok(()) => {}
-                    Err(_) => return Err(LexFail::NoMemory),
-                }
-                depth = after(depth, first);
-                at += len;
+                });
             }
         }
     }
-    Ok(tokens)
+    Next::End
 }
+
+/// The tokens of a text are of their kinds, longest, in order, and between them are separators and comments alone. A
+/// fault is the first one.
+pub fn token_laws()
+    ensures tokens { TokensAre }
+    ensures fault { FaultIsFirst }
+    ensures found { AllAreFound }
+{}
 
 /// The text from a place on.
 fn behind(source: &[u8], at: usize) -> &[u8]
@@ -75,7 +66,7 @@ fn too_deep(depth: u64, byte: u8) -> bool
 }
 
 /// How many brackets are open after a byte.
-fn after(depth: u64, byte: u8) -> u64
+pub fn depth_after(depth: u64, byte: u8) -> u64
     requires { depth ≤ MOST_OPEN }
     ensures { result ≡ depth_after depth byte }
 {

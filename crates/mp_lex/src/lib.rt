@@ -7,7 +7,7 @@ mod lexer;
 pub mod limits;
 mod token;
 
-pub use byte::digit;
+pub use byte::{blank, digit};
 pub use front::digits_value;
-pub use lexer::tokens;
-pub use token::{Kind, LexFail, LexWhy, Token};
+pub use lexer::{depth_after, next_token, token_laws};
+pub use token::{Kind, LexWhy, Next, Token};

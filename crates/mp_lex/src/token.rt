@@ -48,12 +48,12 @@ pub enum LexWhy {
     TooNested,
 }
 
-/// Why there are no tokens.
-#[derive(Clone, Copy, Debug, PartialEq, Eq, Error)]
-pub enum LexFail {
-    /// The first lexical fault of the text, at the first byte of its token; a bad byte, at that byte.
-    #[error("{why} at byte {at}")]
+/// What comes next in a text from a place on.
+#[derive(Clone, Copy, Debug, PartialEq, Eq)]
+pub enum Next {
+    Token(Token),
+    /// Nothing but separators and comments.
+    End,
+    /// A lexical fault, at the first byte of its token; a bad byte, at that byte.
     Bad { at: u64, why: LexWhy },
-    #[error("no memory")]
-    NoMemory,
 }

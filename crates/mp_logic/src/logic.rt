@@ -1,6 +1,7 @@
-ghost use Rattle.std.specs.Prelude.{◌≡◌, ◌≤◌, ◌↔◌, ℕ, Bool, length, IfOk, IsTrue};
+ghost use Rattle.std.specs.Prelude.{◌≡◌, ◌≤◌, length, IfOk, IsTrue};
 ghost use Rattle.std.specs.List.{list_all};
-ghost use Rattle.mp_logic.specs.Steps.{Outcome, IsAnswer};
+ghost use Rattle.mp_logic.specs.Meaning.{Meaning, IsLogic};
+ghost use Rattle.mp_logic.specs.Steps.{IsAnswer};
 
 use crate::{List, NoMemory, Tree};
 use std::alloc::Global;
@@ -34,17 +35,8 @@ pub trait Logic {
 
     type Just: Drop + Send + Sync;
 
-    /// Which goals a step may be tried on.
-    ghost good: { Self → Self.Goal → Bool };
-
-    /// Which justifications a step may be tried by.
-    ghost allowed: { Self → Self.Just → Bool };
-
-    /// The subgoals of a step, or its refusal.
-    ghost step_of: { Self → Self.Just → Self.Goal → Outcome Self.Goal };
-
-    /// The greatest number of subgoals.
-    ghost width_of: { Self → ℕ };
+    /// What the logic means: its goals, its justifications, its steps, and which goals are equal.
+    ghost meaning: { Self → Meaning Self.Goal Self.Just };
 
     /// The subgoals in order, or why there are none.
     fn step(
@@ -53,11 +45,11 @@ pub trait Logic {
         just: &Self::Just,
         goal: &Self::Goal,
     ) -> Result<List<Self::Goal>, StepErr>
-        requires allowed { IsTrue (allowed self.now just.now) }
-        requires good { IsTrue (good self.now goal.now) }
-        ensures answer { IsAnswer (step_of self.now just.now goal.now) result }
-        ensures good { IfOk result (λ kids. IsTrue (list_all (good self.now) kids)) }
-        ensures narrow { IfOk result (λ kids. length kids ≤ width_of self.now) };
+        requires allowed { IsTrue ((meaning self.now).allowed just.now) }
+        requires good { IsTrue ((meaning self.now).good goal.now) }
+        ensures answer { IsAnswer ((meaning self.now).step just.now goal.now) result }
+        ensures good { IfOk result (λ kids. IsTrue (list_all (meaning self.now).good kids)) }
+        ensures narrow { IfOk result (λ kids. length kids ≤ (meaning self.now).width) };
 
     /// An equal goal.
     fn copy_goal(&self, alloc: Global, goal: &Self::Goal) -> Result<Self::Goal, NoMemory>
@@ -69,17 +61,15 @@ pub trait Logic {
 
     /// Whether the goals are equal.
     fn same_goal(&self, a: &Self::Goal, b: &Self::Goal) -> bool
-        ensures { IsTrue result ↔ (a.now ≡ b.now) };
+        ensures { result ≡ (meaning self.now).same a.now b.now };
 
     /// The greatest number of subgoals.
     fn width(&self) -> u32
-        ensures { result ≡ width_of self.now };
+        ensures { result ≡ (meaning self.now).width };
 
-    /// The subgoals of a good goal by an allowed justification are good.
-    ghost keeps_good: { (l : Self) (j : Self.Just) (g : Self.Goal) → IsTrue (allowed l j) → IsTrue (good l g) → IfOk (step_of l j g) (λ kids. IsTrue (list_all (good l) kids)) };
-
-    /// There are no more of them than the width.
-    ghost within_width: { (l : Self) (j : Self.Just) (g : Self.Goal) → IsTrue (allowed l j) → IsTrue (good l g) → IfOk (step_of l j g) (λ kids. length kids ≤ width_of l) };
+    /// The subgoals of a good goal by an allowed justification are good, and no more than the width; and the test of
+    /// goals is equality.
+    ghost lawful: { (l : Self) → IsLogic (meaning l) };
 }
 
 /// An equal tree.

@@ -1,9 +1,8 @@
 -- Instances that have the same values make the same terms and sequents.
-use Rattle.std.proofs.Common.{◌≡◌, ℕ, ◌+◌, List, [], ◌∷◌, ◌++◌, length, map, suc, Bool, true, false, ◌&&◌, nat_eq, not, IsTrue, Option, Some, None, inl, inr, refl, sym, ap, ◌∙◌}
+use Rattle.std.proofs.Common.{◌≡◌, ℕ, ◌+◌, List, [], ◌∷◌, ◌++◌, map, Bool, true, false, IsTrue, Option, Some, None, inl, inr, refl, sym, ap, ◌∙◌}
 use Rattle.std.specs.List.{list_all}
 use Rattle.mp_logic.specs.declared.sym.Sym.{Sym}
-use Rattle.mp_term.specs.declared.term.Term.{Term, Var}
-use Rattle.mp_term.specs.declared.sequent.Sequent.{Sequent}
+use Rattle.mp_term.specs.declared.term.Term.{Term}
 use Rattle.mp_term.specs.Subst.{variables}
 use Rattle.mp_schema.specs.declared.instance.MetaVal.{MetaVal}
 use Rattle.mp_schema.specs.declared.instance.Inst.{Inst}
@@ -12,26 +11,22 @@ use Rattle.mp_schema.specs.declared.pattern.ParamPat.TheVariants.{Lit, Hole}
 use Rattle.mp_schema.specs.declared.pattern.Pattern.{Pattern}
 use Rattle.mp_schema.specs.declared.pattern.Pattern as pat
 use Rattle.mp_schema.specs.declared.pattern.PBound.{PBound}
-use Rattle.mp_schema.specs.declared.schema.Item.{Item}
-use Rattle.mp_schema.specs.declared.schema.Item.TheVariants.{Ctx, Hyp}
 use Rattle.mp_schema.specs.declared.schema.Schema.{Schema}
 use Rattle.mp_schema.specs.Induction.{OfEachBody, OfEachArg, each_pattern}
-use Rattle.mp_schema.specs.Instances.{Values, Ground, upto, made_each, param_of, inst_of, inst_bound, all_pass}
-use Rattle.mp_schema.specs.Sequents.{Instance, Spot, first_spot, ground_at, telescope, hyps_of, hyps_from, behind, behind_all, concl_at, seq}
-use Rattle.mp_logic.specs.Lists.{joined}
-use Rattle.mp_schema.specs.Conditions.{Before, nothing_before, past, past_all, has, has_all, is_apart, is_known, lists_known, below, each_item, item_placed, pattern_placed, all_placed, is_placed}
+use Rattle.mp_schema.specs.Instances.{Values, Ground, made_each, param_of, inst_of, inst_bound, all_pass}
+use Rattle.mp_schema.specs.Sequents.{Instance, seq}
+use Rattle.mp_schema.specs.Conditions.{is_placed}
 use Rattle.mp_schema.specs.Values.{find_ctx, find_meta, find_param}
 use Rattle.mp_schema.proofs.Layers.{inst-Var, inst-Op, inst-Meta, inst_bound-is}
-use Rattle.mp_match.specs.Covering.{is_there, param_covered, covered, covered_bound, is_covered, item_covered, schema_covered}
+use Rattle.mp_match.specs.Covering.{is_there, param_covered, covered, covered_bound, is_covered, schema_covered}
 use Rattle.mp_match.specs.Giving.{with_value}
 use Rattle.mp_schema.specs.Solutions.{Agrees, SameValue}
-use Rattle.mp_term.proofs.EqualTerms.{both_true, same_name}
+use Rattle.mp_term.proofs.EqualTerms.{both_true}
 use Rattle.mp_match.proofs.CoverLaws.{covered-Op, covered-Meta, covered_bound-is}
 use Rattle.mp_schema.specs.Occurrences.{Occurrence}
 use Rattle.mp_schema.proofs.Agreeing.{SameAt, SameHole, same_seq}
 use Rattle.mp_schema.proofs.UseKinds.{kind_of}
 use Rattle.mp_match.proofs.Covered.{HasValue, all_schema}
-use Rattle.mp_match.proofs.Laid.{or_either}
 use Rattle.mp_match.proofs.Solving.{meta-kept, meta-new, meta-either}
 
 -- ## Terms

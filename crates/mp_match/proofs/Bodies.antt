@@ -5,25 +5,25 @@ use Rattle.std.proofs.lemmas.Bool.Decides.{nat_tests}
 use Rattle.mp_term.specs.declared.term.Bound.{Bound}
 use Rattle.mp_term.specs.Terms.{in_scope_of, all_at_scope}
 use Rattle.mp_term.proofs.Layers.{scoped_bound, scoped_bound-is, width_bound-is}
-use Rattle.mp_term.specs.Subst.{widest_of, widest_at, width_bound}
+use Rattle.mp_term.specs.Subst.{widest_of, widest_at, width_bound, upto}
 use Rattle.mp_term.proofs.SubLaws.{drop-at}
 use Rattle.mp_schema.specs.declared.pattern.PBound.{PBound}
 use Rattle.mp_schema.specs.declared.pattern.Pattern as pat
 use Rattle.mp_schema.proofs.pattern.PBound.TheLaws as bound_size
 use Rattle.mp_schema.proofs.pattern.Pattern.TheLaws as pattern_size
-use Rattle.mp_schema.specs.Instances.{upto, all_pass}
+use Rattle.mp_schema.specs.Instances.{all_pass}
 use Rattle.mp_schema.specs.Conditions.{seen, seen_bound, all_fine, lists_known, lists_known_bound}
 use Rattle.mp_schema.proofs.Layers.{fine_bound-is, lists_known_bound-is}
 use Rattle.mp_match.specs.declared.place.Found.{Found}
-use Rattle.mp_match.specs.declared.place.Place.{Place}
+use Rattle.mp_match.specs.declared.place.Position.{Position}
 use Rattle.mp_match.specs.Matching.{found_in, all_found, matcher_bound}
 use Rattle.mp_match.specs.Places.{ground_of, levels_at, names_of}
 use Rattle.mp_match.proofs.Layers.{finds_bound-is}
-use Rattle.mp_schema.proofs.Ranges.{upto-append}
+use Rattle.mp_term.proofs.Ranges.{upto-append}
 use Rattle.mp_term.proofs.EqualTerms.{both_true}
 
 -- binders come last
-pub levels-under : (place : Place) (scope k : ℕ) → place.next ≤ scope → levels_at place scope ++ upto scope k ≡ levels_at place (scope + k)
+pub levels-under : (place : Position) (scope k : ℕ) → place.next ≤ scope → levels_at place scope ++ upto scope k ≡ levels_at place (scope + k)
 levels-under place scope k h =
     let e : place.next + (scope - place.next) ≡ scope = omega arith in
     let e' : (scope - place.next) + k ≡ scope + k - place.next = omega arith in
@@ -31,7 +31,7 @@ levels-under place scope k h =
     append_assoc place.named (upto place.next (scope - place.next)) (upto scope k) ∙ ap (λ xs. place.named ++ xs) joined
 
 -- what the loop over the bodies keeps
-pub record Walked (place : Place) (scope : ℕ) (subs : List PBound) (bodies : List Bound) (start now : Found) (i : ℕ) : Type 0 where
+pub record Walked (place : Position) (scope : ℕ) (subs : List PBound) (bodies : List Bound) (start now : Found) (i : ℕ) : Type 0 where
   pub fine : IsTrue (all_fine (length place.named + (scope - place.next)) (map seen_bound (drop i subs)))
   pub known : IsTrue (all_pass (map (lists_known_bound (names_of place.ctxs)) (drop i subs)))
   pub scoped : IsTrue (all_at_scope scope (map scoped_bound (drop i bodies)))
@@ -39,7 +39,7 @@ pub record Walked (place : Place) (scope : ℕ) (subs : List PBound) (bodies : L
   pub same : all_found (map (matcher_bound (ground_of place)) (drop i subs)) (levels_at place scope) scope (drop i bodies) now
       ≡ all_found (map (matcher_bound (ground_of place)) subs) (levels_at place scope) scope bodies start
 
-module _ (place : Place) (scope : ℕ) (subs : List PBound) (bodies : List Bound) (start now : Found) (i : ℕ) where
+module _ (place : Position) (scope : ℕ) (subs : List PBound) (bodies : List Bound) (start now : Found) (i : ℕ) where
   pub Walked-end : length subs ≡ length bodies → length subs ≤ i → Walked place scope subs bodies start now i →
       Some now ≡ all_found (map (matcher_bound (ground_of place)) subs) (levels_at place scope) scope bodies start
   Walked-end same h w =

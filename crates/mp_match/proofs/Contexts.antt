@@ -8,13 +8,13 @@ use Rattle.mp_term.specs.Subst.{unrenamed}
 use Rattle.mp_schema.specs.declared.pattern.Pattern.{Pattern}
 use Rattle.mp_schema.specs.Conditions.{seen, args_fine, is_known}
 use Rattle.mp_match.specs.declared.place.Found.{Found}
-use Rattle.mp_match.specs.declared.place.Place.{Place}
+use Rattle.mp_match.specs.declared.place.Position.{Position}
 use Rattle.mp_match.specs.declared.place.Walk.{Walk}
 use Rattle.mp_match.specs.Places.{ground_of, names_of, IsUsable}
 use Rattle.mp_match.specs.Walks.{kept_with, kept_found, context_levels, context_found, past_context}
 use Rattle.mp_schema.proofs.Arguments.{arguments-distinct, arguments-below}
 
-module _ (place : Place) (ctxs : List Sym) (args : List Pattern) (fine : IsTrue (args_fine (length place.named) (map seen args)))
+module _ (place : Position) (ctxs : List Sym) (args : List Pattern) (fine : IsTrue (args_fine (length place.named) (map seen args)))
     (known : IsTrue (is_known (names_of place.ctxs) ctxs)) (usable : IsUsable place) where
   no_binders : args_fine (length place.named + (place.next - place.next)) (map seen args) ≡ true
   no_binders = let e : length place.named + (place.next - place.next) ≡ length place.named = omega arith in rw e fine
@@ -26,10 +26,6 @@ module _ (place : Place) (ctxs : List Sym) (args : List Pattern) (fine : IsTrue 
   pub context_below : All (λ l. l < place.next) (context_levels ctxs args place)
   context_below = arguments-below (ground_of place ctxs) place.named place.next place.next (map seen args) (omega arith)
       (usable.distinct ctxs known) (usable.below ctxs known) no_binders
-
-pub context_variables : (place : Place) (args : List Pattern) (scope : ℕ) → scope ≡ place.next → IsTrue (args_fine (length place.named) (map seen args)) →
-    args_fine (length place.named + (scope - place.next)) (map seen args) ≡ true
-context_variables place args scope is fine = let e : length place.named + (scope - place.next) ≡ length place.named = omega arith in rw e fine
 
 -- as many hypotheses are kept
 with-length : (o : Option Term) (r : Option (List Term)) (us : List Term) (n : ℕ) → kept_with o r ≡ Some us → ((rest : List Term) → r ≡ Some rest → length rest ≡ n) →
@@ -45,11 +41,7 @@ kept-length levels m (t ∷ ts) us e =
     (λ rest is. kept-length (levels ++ m ∷ []) (m + 1) ts rest is) in
     omega (arith, r)
 
-pub context-none : (name : Sym) (ctxs : List Sym) (args : List Pattern) (hyps : List Term) (place : Place) →
-    None ≡ kept_found (context_levels ctxs args place) place.next hyps → None ≡ context_found name ctxs args hyps place
-context-none name ctxs args hyps place e = rw (← e) refl
-
-pub context-some : (name : Sym) (ctxs : List Sym) (args : List Pattern) (hyps : List Term) (place : Place) (kept : List Term) (next : ℕ) →
+pub context-some : (name : Sym) (ctxs : List Sym) (args : List Pattern) (hyps : List Term) (place : Position) (kept : List Term) (next : ℕ) →
     Some kept ≡ kept_found (context_levels ctxs args place) place.next hyps → next ≡ place.next + length hyps →
     Some (record (past_context name place kept) { next = next }) ≡ context_found name ctxs args hyps place
 context-some name ctxs args hyps place kept next e is =
@@ -58,12 +50,12 @@ context-some name ctxs args hyps place kept next e is =
     rw (← e, next-is) refl
 
 -- the place goes on, and what is found stays
-pub with_place : (b : Bool) (place : Place) (found : Found) (o : Option Place) → (if b then Some place else None) ≡ o →
-    (if b then Some (record { place = place; found = found }) else None) ≡ option_map (λ (p : Place). let w : Walk = record { place = p; found = found } in w) o
+pub with_place : (b : Bool) (place : Position) (found : Found) (o : Option Position) → (if b then Some place else None) ≡ o →
+    (if b then Some (record { place = place; found = found }) else None) ≡ option_map (λ (p : Position). let w : Walk = record { place = p; found = found } in w) o
 with_place true place found o e = rw (← e) refl
 with_place false place found o e = rw (← e) refl
 
-pub with_place-ok : {E : Type 0} (r : Result Bool E) (place : Place) (found : Found) (o : Option Place) → IfOk r (λ b. (if b then Some place else None) ≡ o) →
-    IfOk r (λ b. (if b then Some (record { place = place; found = found }) else None) ≡ option_map (λ (p : Place). let w : Walk = record { place = p; found = found } in w) o)
+pub with_place-ok : {E : Type 0} (r : Result Bool E) (place : Position) (found : Found) (o : Option Position) → IfOk r (λ b. (if b then Some place else None) ≡ o) →
+    IfOk r (λ b. (if b then Some (record { place = place; found = found }) else None) ≡ option_map (λ (p : Position). let w : Walk = record { place = p; found = found } in w) o)
 with_place-ok (Ok b) place found o h = with_place b place found o h
 with_place-ok (Err e) place found o h = tt

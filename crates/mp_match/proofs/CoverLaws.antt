@@ -6,7 +6,7 @@ use Rattle.mp_logic.specs.declared.sym.Sym.{Sym}
 use Rattle.mp_term.specs.declared.term.Param.{Param}
 use Rattle.mp_term.specs.declared.term.Term.{Term, out-Term}
 use Rattle.mp_term.specs.declared.term.Bound.{Bound}
-use Rattle.mp_term.specs.Subst.{unrenamed}
+use Rattle.mp_term.specs.Subst.{unrenamed, upto}
 use Rattle.mp_schema.specs.declared.instance.MetaVal.{MetaVal}
 use Rattle.mp_schema.specs.declared.instance.ParamVal.{ParamVal}
 use Rattle.mp_schema.specs.declared.pattern.ParamPat.{ParamPat}
@@ -15,7 +15,7 @@ use Rattle.mp_schema.specs.declared.pattern.Pattern.{Pattern, the_lemmas}
 use Rattle.mp_schema.specs.declared.pattern.Pattern as pat
 use Rattle.mp_schema.specs.declared.pattern.PBound.{PBound}
 use Rattle.mp_schema.specs.Induction.{OfEachBody, OfEachArg, each_pattern}
-use Rattle.mp_schema.specs.Instances.{Ground, upto, all_pass}
+use Rattle.mp_schema.specs.Instances.{Ground, all_pass}
 use Rattle.mp_schema.specs.Conditions.{Seen, seen, seen_bound, is_level_below, all_variables, all_fine, argument}
 use Rattle.mp_schema.specs.Values.{find_meta, find_param}
 use Rattle.mp_schema.proofs.Layers.{seen-Op, seen-Meta, fine-Op, fine-Meta, fine_bound-is}
@@ -27,7 +27,7 @@ use Rattle.mp_term.proofs.EqualTerms.{both_true, and_true, decided}
 use Rattle.mp_term.proofs.Layers.{out-Var, out-Op, variant}
 use Rattle.mp_match.proofs.Layers.{finds-Var, finds-Op, finds_bound-is}
 use Rattle.mp_match.proofs.Known.{found-Meta}
-use Rattle.mp_schema.proofs.Ranges.{length-upto}
+use Rattle.mp_term.proofs.Ranges.{length-upto}
 use Rattle.mp_schema.proofs.Arguments.{fine-variables}
 use Rattle.mp_match.proofs.Solving.{meta-kept, meta-new, param-kept, param-new}
 
@@ -108,7 +108,7 @@ Grows-same f = record { metas = λ name x e. e; params = λ name p e. e }
 pub Grows-then : (f g h : Found) → Grows f g → Grows g h → Grows f h
 Grows-then f g h a b = record { metas = λ name x e. b.metas name x (a.metas name x e); params = λ name p e. b.params name p (a.params name p e) }
 
-there-kept : {X : Type 0} (o o' : Option X) → ((x : X) → o ≡ Some x → o' ≡ Some x) → is_there o ≡ true → is_there o' ≡ true
+pub there-kept : {X : Type 0} (o o' : Option X) → ((x : X) → o ≡ Some x → o' ≡ Some x) → is_there o ≡ true → is_there o' ≡ true
 there-kept None o' k h = absurd (cc)
 there-kept (Some x) o' k h = rw (k x refl) refl
 

@@ -1,8 +1,8 @@
 -- What giving a value asks and does.
-use Rattle.std.proofs.Common.{◌≡◌, ℕ, ◌+◌, ◌-◌, ◌<◌, ◌≤◌, List, [], ◌∷◌, ◌++◌, length, map, zero, suc, Bool, true, false, ◌||◌, nat_eq, IsTrue, All, Option, Some, None, inl, inr, refl, sym, ap, ◌∙◌, arith}
+use Rattle.std.proofs.Common.{◌≡◌, ℕ, ◌+◌, ◌<◌, ◌≤◌, List, [], ◌∷◌, ◌++◌, length, map, Bool, true, false, ◌||◌, nat_eq, IsTrue, All, Option, Some, None, inl, inr, refl, sym, ap, ◌∙◌, arith}
+use Rattle.std.specs.Prelude.{◌↔◌, if◌then◌else◌}
 use Rattle.std.specs.List.{IsDistinct}
 use Rattle.std.proofs.lemmas.Bool.{cases_lt}
-use Rattle.std.proofs.lemmas.Bool.Decides.{nat_tests}
 use Rattle.std.proofs.lemmas.Grind.{common_steps}
 use Rattle.mp_logic.specs.declared.sym.Sym.{Sym}
 use Rattle.mp_term.specs.declared.term.Param.{Param}
@@ -10,18 +10,15 @@ use Rattle.mp_term.specs.declared.term.Term.{Term, Var, Op}
 use Rattle.mp_term.specs.declared.term.Bound.{Bound}
 use Rattle.mp_term.specs.Induction.{OfEachBody, each_term}
 use Rattle.mp_term.specs.Terms.{in_scope_of}
-use Rattle.mp_term.specs.Subst.{widest_of, widest_at, width_bound, unrenamed, is_listed, IsRenaming, IsFoundWhereListed}
+use Rattle.mp_term.specs.Subst.{widest_of, widest_at, width_bound, unrenamed, is_listed, IsRenaming, IsFoundWhereListed, upto}
 use Rattle.mp_term.proofs.Layers.{widest-Var, widest-Op}
 use Rattle.mp_term.proofs.Renaming.{few_levels}
-use Rattle.mp_schema.specs.declared.instance.CtxVal.{CtxVal}
+use Rattle.mp_term.proofs.FreeVariables.{found_where_listed}
 use Rattle.mp_schema.specs.declared.instance.Inst.{Inst}
-use Rattle.mp_schema.specs.Instances.{upto}
-use Rattle.mp_schema.specs.Values.{find_meta, first_variable_of, kept_of, body_or, variables_of}
+use Rattle.mp_schema.specs.Values.{find_meta, body_or, variables_of}
 use Rattle.mp_match.specs.Giving.{given_levels, with_value, given_to, IsGiven, NamesOnly}
-use Rattle.mp_match.specs.Places.{EndsBelow}
-use Rattle.mp_schema.proofs.Ranges.{length-upto, get_or-upto}
-use Rattle.mp_schema.proofs.Apart.{Below, Apart-from, Apart-to, Below-from, Below-to, Apart-append, Below-append, Below-left, Below-right, Below-more, Apart-upto, Below-upto, Below-Differ-upto}
-use Rattle.mp_match.proofs.Laid.{range}
+use Rattle.mp_term.proofs.Ranges.{listed-upto, not-listed-upto}
+use Rattle.mp_schema.proofs.Apart.{Apart-from, Apart-to, Below-from, Below-to, Apart-append, Below-append, Below-more, Apart-upto, Below-upto, Below-Differ-upto}
 use Rattle.mp_match.proofs.Solving.{meta-new}
 use Rattle.mp_match.proofs.Steps.{renaming-is}
 
@@ -42,36 +39,7 @@ wide_op o ps bs _ n = rw widest-Op (widest_at-ge n bs)
 pub widest-ge : (t : Term) (n : ℕ) → n ≤ widest_of t n
 widest-ge = each_term IsWide wide_var wide_op
 
--- the contexts of a list end below what their variables are below
-range-ends : (ctxs : List CtxVal) (name : Sym) (n : ℕ) → Below n (range ctxs name) → 0 < length (kept_of ctxs name) →
-    first_variable_of ctxs name + length (kept_of ctxs name) ≤ n
-range-ends ctxs name n b some =
-    let l = length-upto (first_variable_of ctxs name) (length (kept_of ctxs name)) in
-    let last = b (length (kept_of ctxs name) - 1) (omega (arith, l)) in
-    let e = rw (get_or-upto (first_variable_of ctxs name) (length (kept_of ctxs name)) (length (kept_of ctxs name) - 1) 0 (omega arith)) at last in
-    omega (arith, e)
-
-pub names-end : (ctxs : List CtxVal) (names : List Sym) (n m : ℕ) → n < m → All (λ l. l < n) (variables_of ctxs names) → All (EndsBelow ctxs m) names
-names-end ctxs names n m lt b = ends names (Below-from n (variables_of ctxs names) b) where
-  ends : (names : List Sym) → Below n (variables_of ctxs names) → All (EndsBelow ctxs m) names
-  ends [] b k d inside = absurd (omega arith)
-  ends (x ∷ names) b zero d inside = λ some. let e = range-ends ctxs x n (Below-left (range ctxs x) (variables_of ctxs names) n b) some in omega (arith, e)
-  ends (x ∷ names) b (suc k) d inside = ends names (Below-right (range ctxs x) (variables_of ctxs names) n b) k d (omega arith)
-
 -- ## Listed variables
-
-listed-upto : (i m k : ℕ) → m ≤ i → i < m + k → is_listed i (upto m k) ≡ true
-listed-upto i m zero low high = absurd (omega arith)
-listed-upto i m (suc k) low high = elim (cases_lt m i) [
-  | inl less ↦ let r = listed-upto i (suc m) k (omega arith) (omega arith) in grind (arith, nat_tests, common_steps, r)
-  | inr same ↦ let e : nat_eq m i ≡ true = grind (arith, nat_tests) in grind (arith, common_steps, e)
-]
-
-not-listed-upto : (i m k : ℕ) → i < m → is_listed i (upto m k) ≡ false
-not-listed-upto i m zero low = refl
-not-listed-upto i m (suc k) low =
-    let r = not-listed-upto i (suc m) k (omega arith) in
-    let e : nat_eq m i ≡ false = grind (arith, nat_tests) in grind (arith, common_steps, r, e)
 
 listed-append : (i : ℕ) (xs ys : List ℕ) → is_listed i (xs ++ ys) ≡ (is_listed i xs || is_listed i ys)
 listed-append i [] ys = refl
@@ -127,11 +95,19 @@ module _ (i : Inst) (name : Sym) (ctxs : List Sym) (arity : ℕ) (body : Term) (
   is_unrenamed = renaming-is all (200 + arity) body (given-distinct (variables_of i.ctxs ctxs) arity body distinct below)
       (given-below (variables_of i.ctxs ctxs) arity body distinct below) scoped
 
-  pub given-none : IsRenaming all (200 + arity) body None → None ≡ given_to i name ctxs arity body
-  given-none h = let e = is_unrenamed None h in rw e refl
-
-  pub given-some : (u : Term) (new : Inst) → IsRenaming all (200 + arity) body (Some u) → new ≡ with_value i name (length all) u → Some new ≡ given_to i name ctxs arity body
+  given-some : (u : Term) (new : Inst) → IsRenaming all (200 + arity) body (Some u) → new ≡ with_value i name (length all) u → Some new ≡ given_to i name ctxs arity body
   given-some u new h is = let e = is_unrenamed (Some u) h in rw (e, is) refl
+
+  given-none : (r : Option Term) → unrenamed all (200 + arity) body ≡ r → (NamesOnly (variables_of i.ctxs ctxs) body → ⊥) → None ≡ given_to i name ctxs arity body
+  given-none None e more = rw e refl
+  given-none (Some u) e more =
+      absurd (more (named-some (variables_of i.ctxs ctxs) arity body u (found_where_listed all (200 + arity) body (Some u) (sym e))))
+
+  -- what giving answers, as a function
+  pub given-is : (new : Inst) (done : Bool) → (IsTrue done → IsGiven i name ctxs arity body new) → (IsTrue done ↔ NamesOnly (variables_of i.ctxs ctxs) body) →
+      (if done then Some new else None) ≡ given_to i name ctxs arity body
+  given-is new true given named = let g = given refl in given-some g.value new g.renaming g.added
+  given-is new false given named = given-none (unrenamed all (200 + arity) body) refl (λ only. let t = named.1 only in absurd (cc))
 
   pub is-given : (u : Term) (new : Inst) → find_meta i.metas name ≡ None → IsRenaming all (200 + arity) body (Some u) → new ≡ with_value i name (length all) u →
       IsGiven i name ctxs arity body new

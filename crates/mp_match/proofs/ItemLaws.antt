@@ -1,5 +1,5 @@
 -- What an item finds is what makes its hypotheses.
-use Rattle.std.proofs.Common.{◌≡◌, ℕ, ◌+◌, ◌<◌, List, [], ◌∷◌, ◌++◌, length, map, take, Bool, true, false, not, ◌&&◌, nat_eq, IsTrue, All, inl, inr, Some, refl, sym, ap, ◌∙◌, arith}
+use Rattle.std.proofs.Common.{◌≡◌, ℕ, ◌+◌, ◌<◌, List, [], ◌∷◌, ◌++◌, length, map, take, true, false, not, ◌&&◌, nat_eq, IsTrue, All, inl, inr, Some, refl, sym, ap, ◌∙◌, arith}
 use Rattle.std.specs.List.{IsDistinct}
 use Rattle.std.proofs.lemmas.Bool.Decides.{nat_tests}
 use Rattle.std.proofs.lemmas.List.{length-append, length-map}
@@ -14,6 +14,7 @@ use Rattle.mp_schema.specs.Instances.{fits, all_pass, inst_of}
 use Rattle.mp_schema.specs.Sequents.{Instance, Spot, hyps_of, behind, item_fits, wide_of, ground_at}
 use Rattle.mp_schema.specs.Conditions.{Seen, seen, has, is_known, below, lists_known, item_placed, item_fine, all_placed, argument}
 use Rattle.mp_schema.specs.Values.{find_ctx, first_variable_of, first_or}
+use Rattle.mp_schema.proofs.Laying.{not_true}
 use Rattle.mp_match.specs.declared.place.Walk.{Walk}
 use Rattle.mp_match.specs.declared.sizes.Sizes.{Sizes}
 use Rattle.mp_match.specs.Matching.{found_in}
@@ -35,10 +36,6 @@ use Rattle.mp_match.proofs.Ties.{HasContexts, At, ground-same, wide-same, asks-m
 pub record Tied (v : Instance) (w : Walk) : Type 0 where
   pub meets : Meets v.values w.found
   pub ctxs : HasContexts v w.place
-
-false_from : (b : Bool) → not b ≡ true → b ≡ false
-false_from true h = absurd (cc)
-false_from false h = refl
 
 -- ## Named hypotheses
 
@@ -83,7 +80,7 @@ module _ (sizes : Sizes) (w : Walk) (laid : IsLaid w.place) (name : Sym) (names 
   placed-parts =
       let k = both_true (not (has (names_of w.place.ctxs) name) && is_known (names_of w.place.ctxs) names) (all_placed args (before w.place)) placed in
       let k' = both_true (not (has (names_of w.place.ctxs) name)) (is_known (names_of w.place.ctxs) names) k.0 in
-      (false_from (has (names_of w.place.ctxs) name) k'.0, k'.1)
+      (not_true (has (names_of w.place.ctxs) name) k'.0, k'.1)
 
   abbrev levels : List ℕ
   levels = context_levels names args w.place

@@ -8,10 +8,8 @@ use Rattle.mp_term.specs.Terms.{in_scope_of}
 use Rattle.mp_term.specs.Limits.{in_scopes_from}
 use Rattle.mp_term.specs.Subst.{widest_of, IsRenaming, widest_from}
 use Rattle.mp_term.proofs.SubLaws.{drop-at}
-use Rattle.mp_schema.specs.Instances.{upto}
 use Rattle.mp_match.specs.Walks.{kept_with, kept_found}
 use Rattle.mp_term.proofs.EqualTerms.{both_true}
-use Rattle.mp_schema.proofs.Apart.{Apart-from, Apart-to, Below-from, Below-to, Apart-append, Below-append, Below-more, Apart-upto, Below-upto, Below-Differ-upto}
 use Rattle.mp_match.proofs.Steps.{renaming-is}
 use Rattle.mp_schema.proofs.Rows.{next-distinct, next-below}
 

@@ -12,7 +12,7 @@ use Rattle.mp_schema.specs.Instances.{Ground, all_pass}
 use Rattle.mp_schema.specs.Conditions.{Seen, seen, args_fine, lists_known, is_known, argument}
 use Rattle.mp_schema.proofs.Layers.{seen-Var, seen-Op, seen-Meta, fine-Meta, lists_known-Meta}
 use Rattle.mp_match.specs.declared.place.Found.{Found}
-use Rattle.mp_match.specs.declared.place.Place.{Place}
+use Rattle.mp_match.specs.declared.place.Position.{Position}
 use Rattle.mp_match.specs.Matching.{Matcher, matcher, found_in, meta_found}
 use Rattle.mp_match.specs.Places.{ground_of, levels_at, names_of, IsUsable}
 use Rattle.mp_match.proofs.Layers.{level-Var, level-Op, level-Meta, finds-Meta}
@@ -46,7 +46,7 @@ module _ (g : Ground) where
   found-Meta name ctxs args levels m t f =
       finds-Meta g name ctxs args levels m t f ∙ ap (λ xs. meta_found name (g ctxs ++ xs) m t f) (same_arguments levels args)
 
-module _ (place : Place) (scope : ℕ) (name : Sym) (ctxs : List Sym) (args : List Pattern) (p : Pattern) where
+module _ (place : Position) (scope : ℕ) (name : Sym) (ctxs : List Sym) (args : List Pattern) (p : Pattern) where
   pub meta_is : (t : Term) (f : Found) → p ≡ pat.Meta name ctxs args →
       found_in (ground_of place) p (levels_at place scope) scope t f
       ≡ meta_found name (ground_of place ctxs ++ map (λ (a : Seen). argument (levels_at place scope) a.level) (map seen args)) scope t f

@@ -4,10 +4,11 @@ use Rattle.std.proofs.lemmas.Bool.Decides.{nat_tests}
 use Rattle.mp_logic.specs.declared.sym.Sym.{Sym}
 use Rattle.mp_term.specs.declared.term.Term.{Term}
 use Rattle.mp_schema.specs.declared.instance.CtxVal.{CtxVal}
-use Rattle.mp_schema.specs.Instances.{upto}
+use Rattle.mp_term.specs.Subst.{upto}
 use Rattle.mp_schema.specs.Conditions.{has, has_all, is_apart, is_known}
 use Rattle.mp_schema.specs.Values.{find_ctx, kept_of, first_variable_of, variables_of}
-use Rattle.mp_match.specs.declared.place.Place.{Place}
+use Rattle.mp_schema.proofs.Spread.{or_left, or_right}
+use Rattle.mp_match.specs.declared.place.Position.{Position}
 use Rattle.mp_match.specs.Places.{names_of, ground_of, IsUsable}
 use Rattle.mp_match.specs.Walks.{past_named, past_context}
 use Rattle.mp_term.proofs.EqualTerms.{decided, both_true, same_name, same_name-refl}
@@ -22,14 +23,6 @@ has-append (y ∷ xs) x a = elim (decided (nat_eq y.0 a.0)) [ inl h ↦ rw h ref
 pub or_either : (a b : Bool) → (a || b) ≡ true → (a ≡ true) ⊎ (b ≡ true)
 or_either true b h = inl refl
 or_either false b h = inr h
-
-or_left : (a b : Bool) → a ≡ true → (a || b) ≡ true
-or_left true b h = refl
-or_left false b h = absurd (cc)
-
-or_right : (a b : Bool) → b ≡ true → (a || b) ≡ true
-or_right true b h = refl
-or_right false b h = h
 
 pub names-append : (xs : List CtxVal) (x : CtxVal) → names_of (xs ++ x ∷ []) ≡ x.name ∷ names_of xs
 names-append [] x = refl
@@ -112,7 +105,7 @@ abbrev pub range : List CtxVal → Sym → List ℕ
 range ctxs name = upto (first_variable_of ctxs name) (length (kept_of ctxs name))
 
 -- the contexts and the named hypotheses before a place lie apart, below it
-pub record IsLaid (place : Place) : Type 0 where
+pub record IsLaid (place : Position) : Type 0 where
   pub ambient : place.ambient ≡ 0
   pub ends : (name : Sym) → first_variable_of place.ctxs name + length (kept_of place.ctxs name) ≤ place.next
   pub named_below : Below place.next place.named
@@ -130,7 +123,7 @@ Apart-nil i j lt inside = absurd (omega arith)
 Below-nil : (n : ℕ) → Below n []
 Below-nil n i lt = absurd (omega arith)
 
-module _ (place : Place) (laid : IsLaid place) where
+module _ (place : Position) (laid : IsLaid place) where
   range-below : (name : Sym) → Below place.next (range place.ctxs name)
   range-below name =
       let e = laid.ends name in

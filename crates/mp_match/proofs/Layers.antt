@@ -1,19 +1,16 @@
 -- One level of each definition on terms and patterns.
-use Rattle.std.proofs.Common.{◌≡◌, ℕ, ◌+◌, List, ◌++◌, map, get_or, nat_eq, ◌&&◌, Some, None, if◌then◌else◌, refl, rules, ◌⊎◌, inl, inr}
+use Rattle.std.proofs.Common.{◌≡◌, ℕ, ◌+◌, List, ◌++◌, map, get_or, nat_eq, Some, None, if◌then◌else◌, rules}
 use Rattle.mp_logic.specs.declared.sym.Sym.{Sym}
-use Rattle.mp_term.specs.declared.term.Param.{Param}
-use Rattle.mp_term.specs.declared.term.Term.{Term, Var, Op, out-Term}
-use Rattle.mp_term.specs.declared.term.Term as trm
-use Rattle.mp_term.specs.declared.term.Term.TheOpen as term_layer
+use Rattle.mp_term.specs.declared.term.Term.{Term, out-Term}
 use Rattle.mp_term.specs.declared.term.Bound.{Bound}
-use Rattle.mp_term.specs.Induction.{OfEachBody, each_term}
 use Rattle.mp_schema.specs.declared.pattern.ParamPat.{ParamPat}
 use Rattle.mp_schema.specs.declared.pattern.Pattern.{Pattern, the_lemmas}
 use Rattle.mp_schema.specs.declared.pattern.Pattern as pat
 use Rattle.mp_schema.specs.declared.pattern.PBound.{PBound}
-use Rattle.mp_schema.specs.Instances.{Ground, upto}
+use Rattle.mp_schema.specs.Instances.{Ground}
+use Rattle.mp_term.specs.Subst.{upto}
 use Rattle.mp_match.specs.declared.place.Found.{Found}
-use Rattle.mp_term.specs.Equality.{same_term, same_bound, is_level, is_operator}
+use Rattle.mp_term.specs.Equality.{is_level}
 use Rattle.mp_match.specs.Matching.{Matcher, matcher, matcher_bound, found_in, op_found, meta_found}
 use Rattle.mp_schema.specs.Conditions.{argument}
 

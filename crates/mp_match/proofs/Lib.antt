@@ -9,8 +9,9 @@ pub mod ItemLaws
 pub mod Kept
 pub mod Known
 pub mod Laid
+pub mod Laws
 pub mod Layers
-pub mod OtherOperators
+pub mod OtherShapes
 pub mod PatternLaws
 pub mod Ready
 pub mod SequentCovers

@@ -10,7 +10,7 @@ use Rattle.mp_term.specs.declared.term.Term.TheOpen as term_layer
 use Rattle.mp_term.specs.declared.term.Bound.{Bound}
 use Rattle.mp_term.specs.Terms.{in_scope_of, all_at_scope}
 use Rattle.mp_term.proofs.Layers.{in_scope-Op, scoped_bound, scoped_bound-is, out-Var, out-Op, same-Var, variant}
-use Rattle.mp_term.specs.Subst.{sub_of, variables, unrenamed}
+use Rattle.mp_term.specs.Subst.{sub_of, variables, unrenamed, upto}
 use Rattle.mp_schema.specs.declared.instance.MetaVal.{MetaVal}
 use Rattle.mp_schema.specs.declared.pattern.ParamPat.{ParamPat}
 use Rattle.mp_schema.specs.declared.pattern.ParamPat.TheVariants.{Lit, Hole}
@@ -18,7 +18,7 @@ use Rattle.mp_schema.specs.declared.pattern.Pattern.{Pattern}
 use Rattle.mp_schema.specs.declared.pattern.Pattern as pat
 use Rattle.mp_schema.specs.declared.pattern.PBound.{PBound}
 use Rattle.mp_schema.specs.Induction.{OfEachBody, OfEachArg, each_pattern}
-use Rattle.mp_schema.specs.Instances.{Values, Ground, upto, made_each, param_of, inst_of, inst_bound, all_pass, fits, fits_bound}
+use Rattle.mp_schema.specs.Instances.{Values, Ground, made_each, param_of, inst_of, inst_bound, all_pass, fits, fits_bound}
 use Rattle.mp_schema.specs.Conditions.{Seen, seen, seen_bound, is_level_below, all_variables, all_fine, args_fine, is_known, lists_known, lists_known_bound, argument}
 use Rattle.mp_schema.specs.Values.{find_meta, find_param}
 use Rattle.mp_schema.proofs.Layers.{inst-Var, inst-Op, inst-Meta, inst_bound-is, fits-Var, fits-Op, fits-Meta, fits_bound-is, seen-Var, seen-Op, seen-Meta, fine-Var, fine-Op, fine-Meta, fine_bound-is, lists_known-Op, lists_known-Meta, lists_known_bound-is}
@@ -28,7 +28,7 @@ use Rattle.mp_match.specs.Matching.{hole_found, param_found, params_found, value
 use Rattle.mp_term.proofs.EqualTerms.{both_true, and_true, decided, same_name, param-same, param-refl, term-same, term-refl}
 use Rattle.mp_match.proofs.Layers.{finds-Var, finds-Op, finds_bound-is}
 use Rattle.mp_match.proofs.Known.{found-Meta}
-use Rattle.mp_schema.proofs.Ranges.{map-Var-upto, length-upto}
+use Rattle.mp_term.proofs.Ranges.{map-Var-upto, length-upto}
 use Rattle.mp_schema.proofs.Apart.{Apart, Below, Apart-to, Below-to, Apart-append, Below-append, Below-more, Apart-upto, Below-upto, Below-Differ-upto}
 use Rattle.mp_schema.proofs.Arguments.{arguments-distinct, arguments-below, fine-variables}
 use Rattle.mp_match.proofs.Steps.{undone, restored}

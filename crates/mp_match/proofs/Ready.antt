@@ -1,6 +1,5 @@
 -- What the walk over a schema's items keeps.
-use Rattle.std.proofs.Common.{◌≡◌, ℕ, ◌+◌, ◌<◌, ◌≤◌, ◌^◌, List, [], ◌∷◌, ◌++◌, length, drop, take, get_or, Bool, true, false, not, ◌&&◌, Option, Some, None, drop-drop, length-drop, length-take, refl, sym, ap, ◌∙◌, arith}
-use Rattle.std.proofs.Math.ListN.{drop_of_length-le}
+use Rattle.std.proofs.Common.{◌≡◌, ℕ, ◌+◌, ◌<◌, ◌≤◌, ◌^◌, List, [], ◌∷◌, ◌++◌, length, drop, take, get_or, true, false, not, ◌&&◌, Option, Some, None, drop-drop, length-drop, length-take, refl, sym, ap, ◌∙◌, arith}
 use Rattle.std.proofs.lemmas.List.{length_push}
 use Rattle.std.proofs.lemmas.Option.{option_and_then_some}
 use Rattle.mp_logic.specs.declared.sym.Sym.{Sym}
@@ -12,8 +11,9 @@ use Rattle.mp_schema.specs.declared.pattern.Pattern.{Pattern}
 use Rattle.mp_schema.specs.declared.schema.Item.{Item}
 use Rattle.mp_schema.specs.declared.schema.Item.TheVariants.{Ctx, Hyp}
 use Rattle.mp_schema.specs.Conditions.{past, past_all, each_item, item_placed, item_fine, all_placed, is_known, has, nothing_before}
+use Rattle.mp_schema.proofs.Laying.{not_true}
 use Rattle.mp_match.specs.declared.place.Found.{Found}
-use Rattle.mp_match.specs.declared.place.Place.{Place}
+use Rattle.mp_match.specs.declared.place.Position.{Position}
 use Rattle.mp_match.specs.declared.place.Walk.{Walk}
 use Rattle.mp_match.specs.declared.sizes.Sizes.{Sizes}
 use Rattle.mp_match.specs.Matching.{found_in}
@@ -25,7 +25,7 @@ use Rattle.mp_match.proofs.Laid.{IsLaid, laid-named, laid-context, names-append}
 use Rattle.mp_match.proofs.Kept.{widest_from-ge, widest_from-drop, in_scopes-drop}
 use Rattle.mp_match.proofs.Contexts.{kept-length}
 
-pub record Ready (sizes : Sizes) (hyps : List Term) (items : List Item) (place : Place) : Type 0 where
+pub record Ready (sizes : Sizes) (hyps : List Term) (items : List Item) (place : Position) : Type 0 where
   pub laid : IsLaid place
   pub placed : each_item item_placed items (before place) ≡ true
   pub fine : each_item item_fine items (before place) ≡ true
@@ -64,11 +64,11 @@ takes sizes (Hyp p) is ctxs = omega arith
 takes sizes (Ctx name names args) is ctxs = omega arith
 
 module _ (sizes : Sizes) (hyps : List Term) where
-  hyps-past : (place : Place) (k : ℕ) → place.next + k ≤ length hyps → in_scopes_from place.next (drop place.next hyps) ≡ true →
+  hyps-past : (place : Position) (k : ℕ) → place.next + k ≤ length hyps → in_scopes_from place.next (drop place.next hyps) ≡ true →
       in_scopes_from (place.next + k) (drop (place.next + k) hyps) ≡ true
   hyps-past place k room h = rw drop-drop at (in_scopes-drop place.next k (drop place.next hyps) h)
 
-  widths-past : (place : Place) (k : ℕ) → place.next + k ≤ length hyps → widest_from place.next (drop place.next hyps) < 2 ^ 31 →
+  widths-past : (place : Position) (k : ℕ) → place.next + k ≤ length hyps → widest_from place.next (drop place.next hyps) < 2 ^ 31 →
       widest_from (place.next + k) (drop (place.next + k) hyps) < 2 ^ 31
   widths-past place k room h =
       let d = rw drop-drop at (widest_from-drop place.next k (drop place.next hyps)) in
@@ -76,7 +76,7 @@ module _ (sizes : Sizes) (hyps : List Term) where
       let l = length-drop place.next hyps in
       omega (arith, d, ge, l, room, h)
 
-  module _ (is : List Item) (place : Place) where
+  module _ (is : List Item) (place : Position) where
     before-named : (p : Pattern) → before (past_named place) ≡ past (Hyp p) (before place)
     before-named p = let e = length_push place.named place.next in rw e refl
 
@@ -100,10 +100,7 @@ module _ (sizes : Sizes) (hyps : List Term) where
     is_new name names args h =
         let k = both_true (not (has (names_of place.ctxs) name) && is_known (names_of place.ctxs) names) (all_placed args (before place)) h in
         let k' = both_true (not (has (names_of place.ctxs) name)) (is_known (names_of place.ctxs) names) k.0 in
-        false_from (has (names_of place.ctxs) name) k'.0 where
-          false_from : (b : Bool) → not b ≡ true → b ≡ false
-          false_from true h = absurd (cc)
-          false_from false h = refl
+        not_true (has (names_of place.ctxs) name) k'.0
 
     pub Ready-context : (name : Sym) (names : List Sym) (args : List Pattern) (kept : List Term) → length kept ≡ size_after sizes place.ctxs →
         Ready sizes hyps (Ctx name names args ∷ is) place → Ready sizes hyps is (past_context name place kept)
@@ -125,7 +122,7 @@ module _ (sizes : Sizes) (hyps : List Term) where
         }
 
   -- there are as many hypotheses left as an item takes
-  pub Ready-room : (i : Item) (is : List Item) (place : Place) → Ready sizes hyps (i ∷ is) place → place.next + taken sizes i place.ctxs ≤ length hyps
+  pub Ready-room : (i : Item) (is : List Item) (place : Position) → Ready sizes hyps (i ∷ is) place → place.next + taken sizes i place.ctxs ≤ length hyps
   Ready-room i is place r = let t = takes sizes i is place.ctxs in let n = r.counted in omega (arith, t, n)
 
   hyp-walk : (p : Pattern) (t : Term) (w w' : Walk) (o : Option Found) → o ≡ found_in (ground_of w.place) p (levels_at w.place w.place.next) w.place.next t w.found →
@@ -189,14 +186,11 @@ module _ (sizes : Sizes) (hyps : List Term) where
 
 -- ## The loop over the items
 
-pub record Walking (sizes : Sizes) (hyps : List Term) (items : List Item) (place : Place) (found : Found) (i : ℕ) : Type 0 where
+pub record Walking (sizes : Sizes) (hyps : List Term) (items : List Item) (place : Position) (found : Found) (i : ℕ) : Type 0 where
   pub ready : Ready sizes hyps (drop i items) place
   pub same : items_found sizes hyps (drop i items) (record { place = place; found = found }) ≡ items_found sizes hyps items first_walk
 
-module _ (sizes : Sizes) (hyps : List Term) (items : List Item) (place : Place) (found : Found) (i : ℕ) where
-  pub Walking-end : length items ≤ i → Walking sizes hyps items place found i → Some (record { place = place; found = found }) ≡ items_found sizes hyps items first_walk
-  Walking-end h w = let none = drop_of_length-le items h in rw none at w.same
-
+module _ (sizes : Sizes) (hyps : List Term) (items : List Item) (place : Position) (found : Found) (i : ℕ) where
   module _ (item : Item) (lt : i < length items) (is : item ≡ get_or items i item) (w : Walking sizes hyps items place found i) where
     next : drop i items ≡ item ∷ drop (i + 1) items
     next = drop-at items i item lt is
@@ -204,22 +198,10 @@ module _ (sizes : Sizes) (hyps : List Term) (items : List Item) (place : Place) 
     ready : Ready sizes hyps (item ∷ drop (i + 1) items) place
     ready = rw next at w.ready
 
-    pub here_placed : item_placed item (before place) ≡ true
-    here_placed = (both_true (item_placed item (before place)) (each_item item_placed (drop (i + 1) items) (past item (before place))) ready.placed).0
-
-    pub here_fine : item_fine item (before place) ≡ true
-    here_fine = (both_true (item_fine item (before place)) (each_item item_fine (drop (i + 1) items) (past item (before place))) ready.fine).0
-
-    pub here_room : place.next + taken sizes item place.ctxs ≤ length hyps
-    here_room = Ready-room sizes hyps item (drop (i + 1) items) place ready
-
     abbrev here : Walk
     here = record { place = place; found = found }
 
-    pub Walking-fails : None ≡ item_found sizes item (drop place.next hyps) here → None ≡ items_found sizes hyps items first_walk
-    Walking-fails e = let s = rw (next, ← e) at w.same in s
-
-    pub Walking-next : (place' : Place) (found' : Found) → Some (record { place = place'; found = found' }) ≡ item_found sizes item (drop place.next hyps) here →
+    pub Walking-next : (place' : Position) (found' : Found) → Some (record { place = place'; found = found' }) ≡ item_found sizes item (drop place.next hyps) here →
         Walking sizes hyps items place' found' (i + 1)
     Walking-next place' found' e =
         let s = rw (next, ← e) at w.same in

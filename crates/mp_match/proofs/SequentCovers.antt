@@ -1,5 +1,5 @@
 -- What is found for a schema has a value for each of its names.
-use Rattle.std.proofs.Common.{◌≡◌, ℕ, ◌<◌, ◌^◌, List, [], ◌∷◌, length, map, drop, Bool, true, false, not, ◌&&◌, IsTrue, IsSome, ◌↔◌, Option, Some, None, option_and_then, Result, Ok, Err, IfOk, IfSome, refl}
+use Rattle.std.proofs.Common.{◌≡◌, ℕ, ◌<◌, ◌^◌, List, [], ◌∷◌, length, map, drop, true, not, ◌&&◌, IsTrue, IsSome, ◌↔◌, Option, Some, None, option_and_then, Result, Ok, Err, IfOk, IfSome, refl}
 use Rattle.std.specs.Option.{option_map}
 use Rattle.std.specs.List.{list_all}
 use Rattle.std.proofs.lemmas.Option.{option_and_then_some}
@@ -16,8 +16,9 @@ use Rattle.mp_schema.specs.declared.schema.Schema.{Schema}
 use Rattle.mp_schema.specs.Instances.{all_pass}
 use Rattle.mp_schema.specs.Conditions.{seen, past, each_item, item_placed, item_fine, all_placed, has, is_known, is_conclusion, has_two_contexts}
 use Rattle.mp_schema.specs.Values.{find_ctx}
+use Rattle.mp_schema.proofs.Laying.{not_true}
 use Rattle.mp_match.specs.declared.place.Found.{Found}
-use Rattle.mp_match.specs.declared.place.Place.{Place}
+use Rattle.mp_match.specs.declared.place.Position.{Position}
 use Rattle.mp_match.specs.declared.place.Walk.{Walk}
 use Rattle.mp_match.specs.declared.sizes.Sizes.{Sizes}
 use Rattle.mp_match.specs.Covering.{is_there, is_covered, item_covered, schema_covered}
@@ -28,7 +29,7 @@ use Rattle.mp_match.specs.Walks.{sizes_of, item_found, items_found, first_walk, 
 use Rattle.mp_term.specs.Subst.{widest_in_sequent}
 use Rattle.mp_term.proofs.EqualTerms.{both_true, and_true}
 use Rattle.mp_schema.proofs.Arguments.{fine-variables}
-use Rattle.mp_match.proofs.CoverLaws.{Grows, Grows-same, Grows-then, has_meta, has_param, Covers, Covers-lasts, args-covered, pattern-covered}
+use Rattle.mp_match.proofs.CoverLaws.{there-kept, Grows, Grows-same, Grows-then, has_meta, has_param, Covers, Covers-lasts, args-covered, pattern-covered}
 use Rattle.mp_match.proofs.Laid.{ctx-kept, ctx-new, ctx-none}
 use Rattle.mp_match.proofs.Ready.{Ready, Ready-next, hyp-result, ctx-result}
 use Rattle.mp_match.proofs.SequentSizes.{given-two, sizes-counted}
@@ -43,10 +44,6 @@ record GrowsAll (w w' : Walk) : Type 0 where
   found : Grows w.found w'.found
   ctxs : (name : Sym) (x : CtxVal) → find_ctx w.place.ctxs name ≡ Some x → find_ctx w'.place.ctxs name ≡ Some x
 
-there-kept : {X : Type 0} (o o' : Option X) → ((x : X) → o ≡ Some x → o' ≡ Some x) → is_there o ≡ true → is_there o' ≡ true
-there-kept None o' k h = absurd (cc)
-there-kept (Some x) o' k h = rw (k x refl) refl
-
 args-last : (w w' : Walk) → GrowsAll w w' → (args : List Pattern) → all_pass (map (is_covered (whole w)) args) ≡ true → all_pass (map (is_covered (whole w')) args) ≡ true
 args-last w w' g [] h = refl
 args-last w w' g (a ∷ rest) h =
@@ -60,15 +57,11 @@ item-lasts (Ctx name names args) w w' g h =
     and_true (is_there (find_ctx w'.place.ctxs name)) (all_pass (map (is_covered (whole w')) args))
     (there-kept (find_ctx w.place.ctxs name) (find_ctx w'.place.ctxs name) (g.ctxs name) k.0) (args-last w w' g args k.1)
 
-false_from : (b : Bool) → not b ≡ true → b ≡ false
-false_from true h = absurd (cc)
-false_from false h = refl
-
 module _ (sizes : Sizes) (hyps : List Term) where
   abbrev Brought : Item → Walk → Walk → Type 0
   Brought i w m = GrowsAll w m × (item_covered (whole m) i ≡ true)
 
-  pattern-here : (p : Pattern) (place : Place) (t : Term) (old f : Found) → (seen p).fine (length place.named) ≡ true →
+  pattern-here : (p : Pattern) (place : Position) (t : Term) (old f : Found) → (seen p).fine (length place.named) ≡ true →
       found_in (ground_of place) p (levels_at place place.next) place.next t old ≡ Some f → Grows old f × Covers p f
   pattern-here p place t old f fine e = pattern-covered (ground_of place) p place.named place.next t old fine f (rw (levels-here place) at e)
 
@@ -90,7 +83,7 @@ module _ (sizes : Sizes) (hyps : List Term) where
       let placed = (both_true (item_placed (Ctx name names args) (before w.place)) (each_item item_placed is (past (Ctx name names args) (before w.place))) r.placed).0 in
       let a = both_true (not (has (names_of w.place.ctxs) name) && is_known (names_of w.place.ctxs) names) (all_placed args (before w.place)) placed in
       let b = both_true (not (has (names_of w.place.ctxs) name)) (is_known (names_of w.place.ctxs) names) a.0 in
-      let new = false_from (has (names_of w.place.ctxs) name) b.0 in
+      let new = not_true (has (names_of w.place.ctxs) name) b.0 in
       let there = ctx-new w.place.ctxs value (ctx-none w.place.ctxs name new) in
       let more : Walk = record { place = past_context name w.place k.0; found = w.found } in
       rw k.2 (

@@ -1,8 +1,7 @@
 -- Where the variables of the contexts that a match finds lie in the goal.
-use Rattle.std.proofs.Common.{◌≡◌, ℕ, ◌+◌, ◌<◌, ◌≤◌, ◌^◌, List, length, Bool, true, false, nat_eq, Option, Some, None, option_and_then, IsTrue, IsSome, ◌↔◌, All, refl, ap, ◌∙◌, subst, arith}
+use Rattle.std.proofs.Common.{◌≡◌, ℕ, ◌<◌, ◌^◌, List, length, Option, Some, None, option_and_then, IsTrue, IsSome, ◌↔◌, refl, ap, ◌∙◌, subst, arith}
 use Rattle.std.specs.Option.{option_map}
 use Rattle.std.specs.Prelude.{Result, Ok, Err, IfOk, IfSome}
-use Rattle.std.specs.List.{IsDistinct}
 use Rattle.std.proofs.lemmas.Option.{option_and_then_some}
 use Rattle.mp_logic.specs.declared.sym.Sym.{Sym}
 use Rattle.mp_term.specs.declared.sequent.Sequent.{Sequent}
@@ -10,7 +9,7 @@ use Rattle.mp_term.specs.Limits.{sequent_in_scope_of}
 use Rattle.mp_schema.specs.declared.instance.Inst.{Inst}
 use Rattle.mp_schema.specs.declared.schema.Schema.{Schema}
 use Rattle.mp_schema.specs.Conditions.{Before, nothing_before, past_all, has, is_known, is_conclusion, has_two_contexts}
-use Rattle.mp_schema.specs.Values.{find_ctx, kept_of, variables_of}
+use Rattle.mp_schema.specs.Values.{variables_of}
 use Rattle.mp_match.specs.declared.place.Found.{Found}
 use Rattle.mp_match.specs.declared.place.Walk.{Walk}
 use Rattle.mp_match.specs.declared.sizes.Sizes.{Sizes}

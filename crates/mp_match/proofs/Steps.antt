@@ -26,7 +26,7 @@ params-length [] (p ∷ ps) f h = refl
 params-length (q ∷ qs) [] f h = refl
 params-length (q ∷ qs) (p ∷ ps) f h = params_none qs ps (λ g. params-length qs ps g (λ e. h (omega (arith, e)))) (param_found q p f)
 
-all_none : (bs : List BoundMatcher) (levels : List ℕ) (m : ℕ) (xs : List Bound) → ((f : Found) → all_found bs levels m xs f ≡ None) → (o : Option Found) →
+pub all_none : (bs : List BoundMatcher) (levels : List ℕ) (m : ℕ) (xs : List Bound) → ((f : Found) → all_found bs levels m xs f ≡ None) → (o : Option Found) →
     option_and_then (all_found bs levels m xs) o ≡ None
 all_none bs levels m xs h None = refl
 all_none bs levels m xs h (Some f) = h f

@@ -1,8 +1,7 @@
 -- The hypotheses of a context are determined by their terms.
-use Rattle.std.proofs.Common.{◌≡◌, ℕ, ◌+◌, ◌<◌, List, [], ◌∷◌, ◌++◌, length, map, suc, true, nat_eq, IsTrue, All, Option, Some, None, append_assoc, append-nil, add-one, refl, sym, ap, ◌∙◌, arith}
+use Rattle.std.proofs.Common.{◌≡◌, ℕ, ◌+◌, ◌<◌, List, [], ◌∷◌, ◌++◌, length, map, true, nat_eq, IsTrue, All, Option, Some, None, refl}
 use Rattle.std.specs.List.{IsDistinct}
 use Rattle.std.proofs.lemmas.List.{length-append}
-use Rattle.mp_logic.specs.declared.sym.Sym.{Sym}
 use Rattle.mp_term.specs.declared.term.Term.{Term, Var}
 use Rattle.mp_term.specs.Terms.{in_scope_of}
 use Rattle.mp_term.specs.Limits.{in_scopes_from}

@@ -6,7 +6,8 @@ use Rattle.mp_term.specs.declared.term.Term.{Term}
 use Rattle.mp_term.specs.Terms.{in_scope_of}
 use Rattle.mp_schema.specs.declared.instance.Inst.{Inst}
 use Rattle.mp_schema.specs.declared.pattern.Pattern.{Pattern}
-use Rattle.mp_schema.specs.Instances.{Values, Ground, upto, inst_of, fits}
+use Rattle.mp_schema.specs.Instances.{Values, Ground, inst_of, fits}
+use Rattle.mp_term.specs.Subst.{upto}
 use Rattle.mp_schema.specs.Sequents.{Instance}
 use Rattle.mp_schema.specs.Conditions.{seen, lists_known}
 use Rattle.mp_schema.specs.Values.{values_of, body_or, instance_of, variables_of}
@@ -17,7 +18,7 @@ use Rattle.mp_match.specs.Matches.{nothing_found, as_instance, term_place, term_
 use Rattle.mp_match.specs.Places.{ground_of, levels_at, IsUsable}
 use Rattle.mp_schema.specs.Solutions.{Agrees, GivesTerm, IsTermInstance, ambient_only}
 use Rattle.mp_schema.proofs.Apart.{Apart-to, Below-to, Apart-upto, Below-upto}
-use Rattle.mp_schema.proofs.Ranges.{length-upto}
+use Rattle.mp_term.proofs.Ranges.{length-upto}
 use Rattle.mp_match.proofs.CoverLaws.{pattern-covered}
 use Rattle.mp_schema.proofs.KnownLists.{inst-known, fits-known}
 use Rattle.mp_match.proofs.PatternLaws.{Usable, Asks, pattern-solved}

@@ -1,5 +1,5 @@
 -- What the items find is what makes their hypotheses.
-use Rattle.std.proofs.Common.{◌≡◌, ℕ, ◌+◌, ◌≤◌, List, [], ◌∷◌, ◌++◌, length, take, drop, suc, true, IsTrue, Some, drop-drop, length-drop, take-append-drop, refl, sym, ap, ◌∙◌, arith}
+use Rattle.std.proofs.Common.{◌≡◌, ℕ, ◌+◌, ◌≤◌, List, [], ◌∷◌, ◌++◌, length, take, drop, true, IsTrue, Some, drop-drop, length-drop, take-append-drop, refl, sym, ap, ◌∙◌, arith}
 use Rattle.std.proofs.Math.ListN.{drop_of_length-le}
 use Rattle.std.specs.List.{list_all}
 use Rattle.std.proofs.lemmas.Option.{option_and_then_some}
@@ -7,12 +7,11 @@ use Rattle.mp_logic.specs.declared.sym.Sym.{Sym}
 use Rattle.mp_term.specs.declared.term.Term.{Term}
 use Rattle.mp_term.specs.Limits.{in_scopes_from}
 use Rattle.mp_schema.specs.declared.instance.CtxVal.{CtxVal}
-use Rattle.mp_schema.specs.declared.pattern.Pattern.{Pattern}
 use Rattle.mp_schema.specs.declared.schema.Item.{Item}
 use Rattle.mp_schema.specs.declared.schema.Item.TheVariants.{Ctx, Hyp}
-use Rattle.mp_schema.specs.Sequents.{Instance, Spot, first_spot, telescope, hyps_of, hyps_from, behind, behind_all, item_fits}
+use Rattle.mp_schema.specs.Sequents.{Instance, Spot, first_spot, hyps_of, hyps_from, behind, behind_all, item_fits}
 use Rattle.mp_schema.specs.Conditions.{past, each_item, item_placed, item_fine, contexts_among}
-use Rattle.mp_match.specs.declared.place.Place.{Place}
+use Rattle.mp_match.specs.declared.place.Position.{Position}
 use Rattle.mp_match.specs.declared.place.Walk.{Walk}
 use Rattle.mp_match.specs.declared.sizes.Sizes.{Sizes}
 use Rattle.mp_match.specs.Places.{before}
@@ -33,10 +32,10 @@ IsSized v [] size later = Unit {0}
 IsSized v (c ∷ names) size later = (length (v.kept c) ≡ size) × IsSized v names later later
 
 module _ (sizes : Sizes) (hyps : List Term) (v : Instance) (ambient : v.ambient ≡ 0) where
-  placed-here : (i : Item) (is : List Item) (place : Place) → Ready sizes hyps (i ∷ is) place → item_placed i (before place) ≡ true
+  placed-here : (i : Item) (is : List Item) (place : Position) → Ready sizes hyps (i ∷ is) place → item_placed i (before place) ≡ true
   placed-here i is place r = (both_true (item_placed i (before place)) (each_item item_placed is (past i (before place))) r.placed).0
 
-  fine-here : (i : Item) (is : List Item) (place : Place) → Ready sizes hyps (i ∷ is) place → item_fine i (before place) ≡ true
+  fine-here : (i : Item) (is : List Item) (place : Position) → Ready sizes hyps (i ∷ is) place → item_fine i (before place) ≡ true
   fine-here i is place r = (both_true (item_fine i (before place)) (each_item item_fine is (past i (before place))) r.fine).0
 
   -- ## Soundness

@@ -3,11 +3,10 @@ use Rattle.std.specs.Prelude.{◌≡◌, ℕ, ◌+◌, ◌<◌, List, [], ◌∷
 use Rattle.std.specs.Option.{option_map}
 use Rattle.mp_logic.specs.declared.sym.Sym.{Sym}
 use Rattle.mp_term.specs.declared.term.Term.{Term}
-use Rattle.mp_term.specs.Subst.{unrenamed, IsRenaming, occurs_in, is_listed}
+use Rattle.mp_term.specs.Subst.{unrenamed, IsRenaming, occurs_in, is_listed, upto}
 use Rattle.mp_schema.specs.declared.instance.CtxVal.{CtxVal}
 use Rattle.mp_schema.specs.declared.instance.MetaVal.{MetaVal}
 use Rattle.mp_schema.specs.declared.instance.Inst.{Inst}
-use Rattle.mp_schema.specs.Instances.{upto}
 use Rattle.mp_schema.specs.Values.{instance_of, variables_of}
 
 -- the variables of a given body that a value may use: those of its contexts in the goal, and its arguments, whose levels

@@ -1,10 +1,10 @@
 -- The laws of matching that a prover's steps stand on.
-use Rattle.std.specs.Prelude.{◌≡◌, ℕ, ◌<◌, ◌≤◌, ◌^◌, ◌↔◌, List, [], IsTrue, IsSome, IfSome, Option, None}
+use Rattle.std.specs.Prelude.{◌≡◌, ℕ, ◌<◌, ◌^◌, ◌↔◌, List, [], IsTrue, IsSome, IfSome, Option, None}
 use Rattle.mp_logic.specs.declared.sym.Sym.{Sym}
 use Rattle.mp_term.specs.declared.term.Term.{Term}
 use Rattle.mp_term.specs.declared.sequent.Sequent.{Sequent}
 use Rattle.mp_term.specs.Terms.{in_scope_of}
-use Rattle.mp_term.specs.Limits.{within_limits_of, sequent_in_scope_of, sequent_few_binders_of}
+use Rattle.mp_term.specs.Limits.{sequent_in_scope_of}
 use Rattle.mp_schema.specs.declared.instance.Inst.{Inst}
 use Rattle.mp_schema.specs.declared.pattern.Pattern.{Pattern}
 use Rattle.mp_schema.specs.declared.schema.Schema.{Schema}

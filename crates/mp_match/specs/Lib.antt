@@ -1,9 +1,9 @@
 pub mod Covering
 pub mod Giving
-pub mod Heads
 pub mod Laws
 pub mod Matches
 pub mod Matching
 pub mod Places
+pub mod Shapes
 pub mod Spread
 pub mod Walks

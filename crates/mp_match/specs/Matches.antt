@@ -5,7 +5,7 @@ use Rattle.mp_term.specs.declared.term.Term.{Term}
 use Rattle.mp_schema.specs.declared.instance.Inst.{Inst}
 use Rattle.mp_schema.specs.declared.pattern.Pattern.{Pattern}
 use Rattle.mp_match.specs.declared.place.Found.{Found}
-use Rattle.mp_match.specs.declared.place.Place.{Place}
+use Rattle.mp_match.specs.declared.place.Position.{Position}
 use Rattle.mp_match.specs.Matching.{found_in}
 use Rattle.mp_match.specs.Places.{ground_of, levels_at}
 
@@ -14,11 +14,11 @@ abbrev pub nothing_found : Found
 nothing_found = record { metas = []; params = [] }
 
 -- what is found at a place, as an instance
-abbrev pub as_instance : Place → Found → Inst
+abbrev pub as_instance : Position → Found → Inst
 as_instance place found = record { ambient = place.ambient; ctxs = place.ctxs; metas = found.metas; params = found.params }
 
 -- the place of a rewrite in this scope
-abbrev pub term_place : ℕ → Place
+abbrev pub term_place : ℕ → Position
 term_place scope = record { ambient = scope; ctxs = []; named = []; next = scope }
 
 -- the instance that makes the redex this term, of this scope

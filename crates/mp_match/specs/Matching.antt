@@ -6,7 +6,7 @@ use Rattle.mp_term.specs.declared.term.Param.{Param}
 use Rattle.mp_term.specs.declared.term.Term.{Term, Term-F, out-Term}
 use Rattle.mp_term.specs.declared.term.Bound.{Bound}
 use Rattle.mp_term.specs.declared.term.Term.TheOpen as term_layer
-use Rattle.mp_term.specs.Subst.{unrenamed}
+use Rattle.mp_term.specs.Subst.{unrenamed, upto}
 use Rattle.mp_schema.specs.declared.instance.MetaVal.{MetaVal}
 use Rattle.mp_schema.specs.declared.instance.ParamVal.{ParamVal}
 use Rattle.mp_schema.specs.declared.pattern.ParamPat.{ParamPat}
@@ -15,7 +15,7 @@ use Rattle.mp_schema.specs.declared.pattern.Pattern.{Pattern, Pattern-F}
 use Rattle.mp_schema.specs.declared.pattern.PBound.{PBound, PBound-F}
 use Rattle.mp_schema.specs.declared.pattern.Pattern.TheOpen as layer
 use Rattle.mp_schema.specs.declared.pattern.Pattern.TheFolds.{fold-Pattern, fold-PBound}
-use Rattle.mp_schema.specs.Instances.{Ground, upto}
+use Rattle.mp_schema.specs.Instances.{Ground}
 use Rattle.mp_schema.specs.Conditions.{argument}
 use Rattle.mp_schema.specs.Values.{find_meta, find_param}
 use Rattle.mp_match.specs.declared.place.Found.{Found}

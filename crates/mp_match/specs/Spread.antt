@@ -1,5 +1,5 @@
 -- Where the variables of the contexts that a match finds lie in the goal.
-use Rattle.std.specs.Prelude.{◌≡◌, ℕ, ◌<◌, ◌≤◌, List, length, false, nat_eq, None, IsTrue, All}
+use Rattle.std.specs.Prelude.{◌≡◌, ◌<◌, ◌≤◌, List, length, false, nat_eq, None, IsTrue, All}
 use Rattle.std.specs.List.{IsDistinct}
 use Rattle.mp_logic.specs.declared.sym.Sym.{Sym}
 use Rattle.mp_term.specs.declared.sequent.Sequent.{Sequent}

@@ -1,10 +1,10 @@
 -- What matching a schema finds, item by item, as a function.
-use Rattle.std.specs.Prelude.{ℕ, ◌+◌, ◌-◌, zero, suc, List, [], ◌∷◌, ◌++◌, map, length, take, drop, max, nat_lt, if◌then◌else◌, Option, Some, None, option_and_then}
+use Rattle.std.specs.Prelude.{ℕ, ◌+◌, ◌-◌, zero, suc, List, [], ◌∷◌, ◌++◌, map, length, take, drop, nat_lt, if◌then◌else◌, Option, Some, None, option_and_then}
 use Rattle.std.specs.Option.{option_map}
 use Rattle.mp_logic.specs.declared.sym.Sym.{Sym}
 use Rattle.mp_term.specs.declared.term.Term.{Term}
 use Rattle.mp_term.specs.declared.sequent.Sequent.{Sequent}
-use Rattle.mp_term.specs.Subst.{unrenamed, widest_of}
+use Rattle.mp_term.specs.Subst.{unrenamed}
 use Rattle.mp_schema.specs.declared.instance.CtxVal.{CtxVal}
 use Rattle.mp_schema.specs.declared.instance.Inst.{Inst}
 use Rattle.mp_schema.specs.declared.pattern.Pattern.{Pattern}
@@ -13,7 +13,7 @@ use Rattle.mp_schema.specs.declared.schema.Item.TheVariants.{Ctx, Hyp}
 use Rattle.mp_schema.specs.declared.schema.Schema.{Schema}
 use Rattle.mp_schema.specs.Conditions.{Seen, seen, contexts_among, argument}
 use Rattle.mp_match.specs.declared.place.Found.{Found}
-use Rattle.mp_match.specs.declared.place.Place.{Place}
+use Rattle.mp_match.specs.declared.place.Position.{Position}
 use Rattle.mp_match.specs.declared.place.Walk.{Walk}
 use Rattle.mp_match.specs.declared.sizes.Sizes.{Sizes}
 use Rattle.mp_match.specs.Matching.{found_in}
@@ -59,11 +59,11 @@ needed (Hyp p ∷ is) size later = suc (needed is size later)
 needed (Ctx name names args ∷ is) size later = size + needed is later later
 
 -- the place after a named hypothesis
-abbrev pub past_named : Place → Place
+abbrev pub past_named : Position → Position
 past_named place = record place { named = place.named ++ place.next ∷ []; next = place.next + 1 }
 
 -- the place after a context with these hypotheses
-abbrev pub past_context : Sym → Place → List Term → Place
+abbrev pub past_context : Sym → Position → List Term → Position
 past_context name place hyps =
     let x : CtxVal = record { name = name; first = place.next; hyps = hyps } in
     record place { ctxs = place.ctxs ++ x ∷ []; next = place.next + length hyps }
@@ -85,11 +85,11 @@ kept_found levels m [] = Some []
 kept_found levels m (t ∷ ts) = kept_with (unrenamed levels m t) (kept_found (levels ++ m ∷ []) (m + 1) ts)
 
 -- the variables that the hypotheses of a context may use
-abbrev pub context_levels : List Sym → List Pattern → Place → List ℕ
+abbrev pub context_levels : List Sym → List Pattern → Position → List ℕ
 context_levels ctxs args place = ground_of place ctxs ++ map (λ (a : Seen). argument (levels_at place place.next) a.level) (map seen args)
 
 -- the place after a context that keeps these hypotheses
-abbrev pub context_found : Sym → List Sym → List Pattern → List Term → Place → Option Place
+abbrev pub context_found : Sym → List Sym → List Pattern → List Term → Position → Option Position
 context_found name ctxs args hyps place = option_map (past_context name place) (kept_found (context_levels ctxs args place) place.next hyps)
 
 module _ (sizes : Sizes) where
@@ -98,7 +98,7 @@ module _ (sizes : Sizes) where
   item_found (Hyp p) [] w = None
   item_found (Hyp p) (t ∷ ts) w = hyp_found p t w
   item_found (Ctx name ctxs args) ts w =
-      option_map (λ (place : Place). record { place = place; found = w.found }) (context_found name ctxs args (take (size_after sizes w.place.ctxs) ts) w.place)
+      option_map (λ (place : Position). record { place = place; found = w.found }) (context_found name ctxs args (take (size_after sizes w.place.ctxs) ts) w.place)
 
   -- what the items find in a goal with these hypotheses
   abbrev pub items_found : List Term → List Item → Walk → Option Walk

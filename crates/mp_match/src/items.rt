@@ -9,11 +9,11 @@ ghost use Rattle.mp_match.specs.Walks.{taken, needed, hyp_found, kept_found, con
 
 use crate::levels::levels_of;
 use crate::patterns::match_within;
-use crate::place::{Found, Place, Walk};
+use crate::place::{Found, Position, Walk};
 use crate::sizes::{Sizes, next_size};
 use mp_logic::{List, NoMemory, Sym};
-use mp_schema::{CtxVal, Item, Pattern};
-use mp_subst::unrename;
+use mp_schema::{CtxVal, Item, MetaVals, ParamVals, Pattern};
+use mp_subst::{Levels, unrename};
 use mp_term::Term;
 use std::alloc::Global;
 
@@ -31,15 +31,15 @@ pub(crate) fn match_items(
     requires narrow { widest_from 0 hyps.now < 2 ^ 31 }
     ensures { IfOk result (λ r. r ≡ items_found sizes hyps.now items.now first_walk) }
 {
-    let mut place = Place {
+    let mut place = Position {
         ambient: 0,
         ctxs: List::new(alloc),
         named: List::new(alloc),
         next: 0,
     };
     let mut found = Found {
-        metas: List::new(alloc),
-        params: List::new(alloc),
+        metas: MetaVals::new(alloc),
+        params: ParamVals::new(alloc),
     };
     for item in items {
         if !match_item(alloc, item, hyps, sizes, &mut place, &mut found)? {
@@ -56,7 +56,7 @@ fn match_item(
     item: &Item,
     hyps: &[Term],
     sizes: Sizes,
-    place: &mut Place,
+    place: &mut Position,
     found: &mut Found,
 ) -> Result<bool, NoMemory>
     requires placed { IsTrue (item_placed item.now (before place.old)) }
@@ -82,7 +82,7 @@ fn match_hypothesis(
     alloc: Global,
     p: &Pattern,
     t: &Term,
-    place: &mut Place,
+    place: &mut Position,
     found: &mut Found,
 ) -> Result<bool, NoMemory>
     requires fine { IsTrue ((seen p.now).fine (length place.old.named)) }
@@ -111,7 +111,7 @@ fn match_context(
     ctxs: &List<Sym>,
     args: &List<Pattern>,
     hyps: &[Term],
-    place: &mut Place,
+    place: &mut Position,
 ) -> Result<bool, NoMemory>
     requires fine { IsTrue (args_fine (length place.old.named) (map seen args.now)) }
     requires known { IsTrue (is_known (names_of place.old.ctxs) ctxs.now) }
@@ -143,7 +143,7 @@ fn match_context(
 // before it. None where one has another variable.
 fn kept_hypotheses(
     alloc: Global,
-    mut levels: List<u32>,
+    mut levels: Levels,
     first: u32,
     hyps: &[Term],
 ) -> Result<Option<List<Term>>, NoMemory>
@@ -156,15 +156,13 @@ fn kept_hypotheses(
     let mut kept = List::with_capacity(alloc, hyps.len() as u64)?;
     let mut scope = first;
     for hyp in hyps {
-        let Some(term) = unrename(alloc, hyp, scope, levels.as_slice())? else {
+        let Some(term) = unrename(alloc, hyp, scope, &levels)? else {
             return Ok(None);
         };
         if let Err((_, refused)) = kept.push(term) {
             return Err(refused);
         }
-        if let Err((_, refused)) = levels.push(scope) {
-            return Err(refused);
-        }
+        levels.push(scope)?;
         scope += 1;
     }
     Ok(Some(kept))

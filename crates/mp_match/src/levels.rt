@@ -1,13 +1,14 @@
 ghost use Rattle.std.specs.Prelude.{◌≡◌, ◌+◌, ◌-◌, ◌<◌, ◌≤◌, ◌^◌, ◌++◌, ℕ, map, length, IsTrue, All, IfOk, OnOk, slice_index_or};
-ghost use Rattle.mp_schema.specs.Instances.{upto};
+ghost use Rattle.mp_term.specs.Subst.{upto};
 ghost use Rattle.mp_schema.specs.Conditions.{seen, Seen, all_variables, or_zero};
 ghost use Rattle.mp_schema.specs.Conditions.{argument};
-ghost use Rattle.mp_match.specs.Places.{ground_of, levels_at, EndsBelow, IsUsable};
+ghost use Rattle.mp_match.specs.Places.{ground_of, levels_at, IsUsable};
 ghost use Rattle.mp_schema.specs.Values.{variables_of};
 
-use crate::place::Place;
+use crate::place::Position;
 use mp_logic::{List, NoMemory, Sym};
 use mp_schema::{CtxVal, Pattern, context_value};
+use mp_subst::Levels;
 use std::alloc::Global;
 
 // The variables that the value of a second-order variable or a context may use: those of the ambient scope and of
@@ -16,9 +17,9 @@ pub(crate) fn levels_of(
     alloc: Global,
     names: &List<Sym>,
     args: &List<Pattern>,
-    place: &Place,
+    place: &Position,
     scope: u32,
-) -> Result<List<u32>, NoMemory>
+) -> Result<Levels, NoMemory>
     requires outer { place.now.next ≤ scope }
     requires variables { IsTrue (all_variables (length place.now.named + (scope - place.now.next)) (map seen args.now)) }
     requires usable { IsUsable place.now }
@@ -26,58 +27,39 @@ pub(crate) fn levels_of(
 {
     let mut levels = ground_levels(alloc, names, place)?;
     for arg in args.as_slice() {
-        let level = level_at(place, level_of(arg), scope);
-        if let Err((_, refused)) = levels.push(level) {
-            return Err(refused);
-        }
+        levels.push(level_at(place, level_of(arg), scope))?;
     }
     Ok(levels)
 }
 
 // The variables of the ambient scope, and those of the contexts, one context after the other.
-fn ground_levels(alloc: Global, names: &List<Sym>, place: &Place) -> Result<List<u32>, NoMemory>
-    requires usable { IsUsable place.now }
-    requires narrow { place.now.next < 2 ^ 32 }
+fn ground_levels(alloc: Global, names: &List<Sym>, place: &Position) -> Result<Levels, NoMemory>
     ensures { IfOk result (λ levels. levels ≡ ground_of place.now names.now) }
 {
-    let mut levels = List::new(alloc);
-    push_range(&mut levels, 0, place.ambient)?;
+    let mut levels = Levels::new(alloc);
+    levels.push_range(0, place.ambient as u64)?;
     push_contexts(&mut levels, names, &place.ctxs)?;
     Ok(levels)
 }
 
 // Adds the variables of the contexts, one context after the other.
 pub(crate) fn push_contexts(
-    levels: &mut List<u32>,
+    levels: &mut Levels,
     names: &List<Sym>,
     ctxs: &List<CtxVal>,
 ) -> Result<(), NoMemory>
-    requires { All (EndsBelow ctxs.now (2 ^ 32)) names.now }
     ensures { OnOk result (levels.new ≡ levels.old ++ variables_of ctxs.now names.now) }
 {
     for name in names.as_slice() {
         if let Some(value) = context_value(ctxs, *name) {
-            push_range(levels, value.first, value.hyps.len() as u32)?;
-        }
-    }
-    Ok(())
-}
-
-// Adds the numbers from `first` on, so many of them.
-pub(crate) fn push_range(levels: &mut List<u32>, first: u32, count: u32) -> Result<(), NoMemory>
-    requires { first + count < 2 ^ 32 }
-    ensures { OnOk result (levels.new ≡ levels.old ++ upto first count) }
-{
-    for i in 0..count {
-        if let Err((_, refused)) = levels.push(first + i) {
-            return Err(refused);
+            levels.push_range(value.first, value.hyps.len())?;
         }
     }
     Ok(())
 }
 
 // The variable of a level of a pattern at the place, under binders up to the scope.
-pub(crate) fn level_at(place: &Place, level: u32, scope: u32) -> u32
+pub(crate) fn level_at(place: &Position, level: u32, scope: u32) -> u32
     requires outer { place.now.next ≤ scope }
     requires below { level < length place.now.named + (scope - place.now.next) }
     ensures { (d : ℕ) → result ≡ slice_index_or (levels_at place.now scope) level d }

@@ -12,17 +12,17 @@
 #![tactic(auto)]
 
 mod giving;
-mod heads;
 mod items;
-mod laws;
+mod law;
 mod levels;
 mod matching;
 mod patterns;
 mod place;
 mod sequents;
+mod shapes;
 mod sizes;
 
 pub use giving::give;
-pub use laws::{agreement_laws, match_laws};
+pub use law::{agreement_laws, match_laws};
 pub use matching::match_term;
 pub use sequents::match_sequent;

@@ -7,9 +7,9 @@ ghost use Rattle.mp_match.specs.Matches.{as_instance, term_match};
 ghost use Rattle.mp_schema.specs.Solutions.{IsTermInstance};
 
 use crate::patterns::match_within;
-use crate::place::{Found, Place};
+use crate::place::{Found, Position};
 use mp_logic::{List, NoMemory};
-use mp_schema::{Inst, Pattern};
+use mp_schema::{Inst, MetaVals, ParamVals, Pattern};
 use mp_term::Term;
 use std::alloc::Global;
 
@@ -49,15 +49,15 @@ fn term_found(
     requires narrow { widest_of t.now scope < 2 ^ 31 }
     ensures { IfOk result (λ r. r ≡ term_match redex.now scope t.now) }
 {
-    let place = Place {
+    let place = Position {
         ambient: scope,
         ctxs: List::new(alloc),
         named: List::new(alloc),
         next: scope,
     };
     let mut found = Found {
-        metas: List::new(alloc),
-        params: List::new(alloc),
+        metas: MetaVals::new(alloc),
+        params: ParamVals::new(alloc),
     };
     if !match_within(alloc, redex, &place, scope, t, &mut found)? {
         return Ok(None);
@@ -66,10 +66,10 @@ fn term_found(
 }
 
 // What is found at the place, as an instance.
-pub(crate) fn instance_at(place: Place, found: Found) -> Inst
+pub(crate) fn instance_at(place: Position, found: Found) -> Inst
     ensures { result ≡ as_instance place found }
 {
-    let Place { ambient, ctxs, .. } = place;
+    let Position { ambient, ctxs, .. } = place;
     let Found { metas, params } = found;
     Inst {
         ambient,

@@ -9,10 +9,10 @@ ghost use Rattle.mp_match.specs.Matching.{found_in, all_found, params_found, par
 ghost use Rattle.mp_match.specs.Places.{ground_of, levels_at, names_of, IsUsable};
 
 use crate::levels::{level_at, levels_of};
-use crate::place::{Found, Place};
+use crate::place::{Found, Position};
 use mp_logic::{List, NoMemory, Sym};
-use mp_schema::{MetaVal, PBound, ParamPat, ParamVal, Pattern, meta_value, param_value};
-use mp_subst::unrename;
+use mp_schema::{MetaVal, PBound, ParamPat, ParamVal, Pattern};
+use mp_subst::{Levels, unrename};
 use mp_term::{Bound, Param, Term, same};
 use std::alloc::Global;
 
@@ -22,7 +22,7 @@ use std::alloc::Global;
 pub(crate) fn match_within(
     alloc: Global,
     p: &Pattern,
-    place: &Place,
+    place: &Position,
     scope: u32,
     t: &Term,
     found: &mut Found,
@@ -65,7 +65,7 @@ pub(crate) fn match_within(
         },
         Pattern::Meta { name, ctxs, args } => {
             let levels = levels_of(alloc, ctxs, args, place, scope)?;
-            match_meta(alloc, *name, levels.as_slice(), scope, t, found)
+            match_meta(alloc, *name, &levels, scope, t, found)
         }
     }
 }
@@ -74,7 +74,7 @@ pub(crate) fn match_within(
 fn match_subs(
     alloc: Global,
     subs: &[PBound],
-    place: &Place,
+    place: &Position,
     scope: u32,
     bodies: &[Bound],
     found: &mut Found,
@@ -124,12 +124,10 @@ fn match_param(pat: ParamPat, value: Param, found: &mut Found) -> Result<bool, N
 {
     match pat {
         ParamPat::Lit(param) => Ok(param == value),
-        ParamPat::Hole(name) => match param_value(&found.params, name) {
+        ParamPat::Hole(name) => match found.params.get(name) {
             Some(param) => Ok(param == value),
             None => {
-                if let Err((_, refused)) = found.params.push(ParamVal { name, value }) {
-                    return Err(refused);
-                }
+                found.params.push(ParamVal { name, value })?;
                 Ok(true)
             }
         },
@@ -140,7 +138,7 @@ fn match_param(pat: ParamPat, value: Param, found: &mut Found) -> Result<bool, N
 fn match_meta(
     alloc: Global,
     name: Sym,
-    levels: &[u32],
+    levels: &Levels,
     scope: u32,
     t: &Term,
     found: &mut Found,
@@ -153,17 +151,14 @@ fn match_meta(
 {
     match unrename(alloc, t, scope, levels)? {
         None => Ok(false),
-        Some(body) => match meta_value(&found.metas, name) {
+        Some(body) => match found.metas.get(name) {
             Some(value) => Ok(same(&value.body, &body)),
             None => {
-                let value = MetaVal {
+                found.metas.push(MetaVal {
                     name,
-                    scope: levels.len() as u32,
+                    scope: levels.len(),
                     body,
-                };
-                if let Err((_, refused)) = found.metas.push(value) {
-                    return Err(refused);
-                }
+                })?;
                 Ok(true)
             }
         },

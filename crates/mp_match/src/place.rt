@@ -1,9 +1,9 @@
 use mp_logic::List;
-use mp_schema::{CtxVal, MetaVal, ParamVal};
+use mp_schema::{CtxVal, MetaVals, ParamVals};
 
 /// A place in a schema: what is matched on its left.
 #[derive(Drop)]
-pub(crate) struct Place {
+pub(crate) struct Position {
     /// The number of variables that each value may use.
     pub ambient: u32,
     /// The contexts before the place.
@@ -18,16 +18,16 @@ pub(crate) struct Place {
 #[derive(Drop)]
 pub(crate) struct Found {
     /// The second-order variables' values.
-    pub metas: List<MetaVal>,
+    pub metas: MetaVals,
     /// The holes' values.
-    pub params: List<ParamVal>,
+    pub params: ParamVals,
 }
 
 /// What is matched before a place, and found so far.
 #[derive(Drop)]
 pub(crate) struct Walk {
     /// The place.
-    pub place: Place,
+    pub place: Position,
     /// What is found.
     pub found: Found,
 }

@@ -7,11 +7,11 @@ ghost use Rattle.mp_match.specs.Spread.{IsSpread};
 ghost use Rattle.mp_match.specs.Walks.{match_of};
 ghost use Rattle.mp_term.specs.Subst.{widest_in_sequent};
 
-use crate::heads::has_head_of;
 use crate::items::match_items;
 use crate::matching::instance_at;
 use crate::patterns::match_within;
 use crate::place::Walk;
+use crate::shapes::has_shape_of;
 use crate::sizes::context_sizes;
 use mp_logic::NoMemory;
 use mp_schema::{Inst, Schema};
@@ -27,9 +27,11 @@ use std::alloc::Global;
 /// NoMemory where memory ran out; nothing else is refused.
 ///
 /// A context's size is what the named hypotheses and the other context leave, and there is no instance where it would be
-/// negative. Where there is no context, the goal must have as many hypotheses as the schema. One walk over the items and
-/// the goal, and one copy of what each second-order variable and each context stands for; where the conclusions have
-/// unlike operators, nothing but these is looked at.
+/// negative. Where there is no context, the goal must have as many hypotheses as the schema.
+///
+/// Where some operator of the conclusion isn't the goal's, nothing but the two conclusions is looked at, and no memory is
+/// taken. Else it is one walk over the items and the goal, and one copy of what each second-order variable and each context
+/// stands for, or one more owner where all variables before it may be used.
 pub fn match_sequent(
     alloc: Global,
     concl: &Schema,
@@ -60,7 +62,7 @@ fn sequent_found(
     ensures { IfOk result (λ r. r ≡ match_of concl.now first goal.now) }
 {
     // Most rules that don't fit show it here, before anything is copied.
-    if !has_head_of(&concl.concl, &goal.concl) {
+    if !has_shape_of(&concl.concl, &goal.concl) {
         return Ok(None);
     }
     let hyps = goal.hyps.as_slice();

@@ -97,8 +97,8 @@ impl<R: Files> Shelf for FileShelf<'_, R> {
 
     ghost longs = { λ s. s.longs };
 
-    /// Reads the file to its end, or to byte `limit + 1`. Each Failed raises the count of faults by
-    /// one, and each TooLong that of long files.
+    /// Reads the file to its end; of a longer one at most 4,096 bytes beyond `limit`. Each Failed
+    /// raises the count of faults by one, and each TooLong that of long files, up to `u64::MAX`.
     fn read(&mut self, alloc: Global, name: &Text, limit: u64) -> Result<Text, ReadErr> {
         let read = read_file(self.rt, alloc, name.as_slice(), limit);
         match read {

@@ -57,7 +57,8 @@ impl<R: Print> Sink for StdSink<'_, R> {
 
     ghost faults = { λ s. s };
 
-    /// Writes all of the bytes, and flushes them. Each PutFailed raises the count of faults by one.
+    /// Writes all of the bytes, and flushes them. Each PutFailed raises the count of faults by one,
+    /// up to `u64::MAX`.
     fn put(&mut self, bytes: &[u8]) -> Result<(), PutFailed> {
         let written = write_whole(&mut io::writer(self.rt), bytes);
         if written.is_err() {

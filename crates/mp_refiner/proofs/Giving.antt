@@ -1,6 +1,6 @@
 -- The needs' values, one after the other.
-use Rattle.std.proofs.Common.{◌≡◌, ℕ, ◌+◌, ◌^◌, ◌<◌, ◌≤◌, List, [], ◌∷◌, length, drop, get_or, false, Option, Some, None, zero, suc, refl, sym, ap, ◌∙◌, subst, arith, IsTrue}
-use Rattle.std.specs.Prelude.{option_and_then}
+use Rattle.std.proofs.Common.{◌≡◌, ℕ, ◌+◌, ◌^◌, ◌<◌, ◌≤◌, List, [], ◌∷◌, length, drop, get_or, Bool, false, if◌then◌else◌, Option, Some, None, zero, suc, refl, sym, ap, ◌∙◌, subst, arith, IsTrue}
+use Rattle.std.specs.Prelude.{◌↔◌, option_and_then}
 use Rattle.std.proofs.lemmas.Bool.Decides.{nat_tests}
 use Rattle.std.proofs.lemmas.Grind.{common_steps}
 use Rattle.std.specs.Option.{option_map}
@@ -13,20 +13,29 @@ use Rattle.mp_term.proofs.SubLaws.{drop-at}
 use Rattle.mp_term.proofs.Laws.{width_of_few_binders}
 use Rattle.mp_schema.specs.declared.instance.Inst.{Inst}
 use Rattle.mp_schema.specs.declared.instance.MetaVal.{MetaVal}
-use Rattle.mp_schema.specs.Values.{find_meta}
-use Rattle.mp_match.specs.Giving.{given_to, given_levels, with_value}
+use Rattle.mp_schema.specs.declared.instance.CtxVal.{CtxVal}
+use Rattle.mp_schema.specs.Values.{find_meta, variables_of}
+use Rattle.mp_match.specs.Giving.{given_to, given_levels, with_value, IsGiven, NamesOnly}
+use Rattle.mp_match.proofs.GivenLaws.{given-is}
 use Rattle.mp_theory.specs.declared.rule.Need.{Need}
 use Rattle.mp_theory.specs.declared.just.Given.{Given}
 use Rattle.mp_theory.specs.Needs.{is_needed}
-use Rattle.mp_refiner.specs.Ready.{AreNew}
-use Rattle.mp_refiner.specs.laws.Given.{new_more}
+use Rattle.mp_refiner.specs.Ready.{AreNew, IsUsable}
+use Rattle.mp_refiner.proofs.GivenValues.{new_more}
 use Rattle.mp_schema.proofs.Lists.{value_or}
 use Rattle.mp_theory.specs.Allowed.{is_for, are_for}
 use Rattle.mp_refiner.specs.Steps.{given_all}
-use Rattle.mp_refiner.specs.laws.Asked.{IsForNeed}
+use Rattle.mp_theory.proofs.ForNeeds.{IsForNeed}
 
 abbrev pub given_of : Need → Given → Inst → Option Inst
 given_of n g i = given_to i n.name n.ctxs n.arity g.body
+
+-- what is given for one need
+pub given_value : (i new : Inst) (n : Need) (g : Given) (ctxs : List CtxVal) (done : Bool) → i.ctxs ≡ ctxs → IsUsable ctxs n → IsForNeed n g → (IsTrue done → IsGiven i n.name n.ctxs n.arity g.body new) →
+    (IsTrue done ↔ NamesOnly (variables_of i.ctxs n.ctxs) g.body) → (if done then Some new else None) ≡ given_of n g i
+given_value i new n g ctxs done same usable facts added named =
+    let u : IsUsable i.ctxs n = subst (λ cs. IsUsable cs n) (sym same) usable in
+    given-is i n.name n.ctxs n.arity g.body u.distinct u.below facts.scoped new done added named
 
 module _ (ns : List Need) (gs : List Given) (place : ℕ) (n : Need) (g : Given) (here : place < length ns) (there : place < length gs) (n_is : n ≡ get_or ns place n) (g_is : g ≡ get_or gs place g) where
   given-cons : (i : Inst) → given_all (drop place ns) (drop place gs) i ≡ option_and_then (given_all (drop (place + 1) ns) (drop (place + 1) gs)) (given_of n g i)

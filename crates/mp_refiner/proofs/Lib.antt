@@ -1,6 +1,14 @@
+pub mod Asked
+pub mod Filled
+pub mod GivenValues
 pub mod Giving
+pub mod Goods
 pub mod Kids
+pub mod Laws
+pub mod Matched
+pub mod Meeting
 pub mod Once
-pub mod Rules
 pub mod Stepping
+pub mod Tame
+pub mod Unused
 pub mod Whole

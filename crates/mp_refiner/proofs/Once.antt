@@ -1,21 +1,19 @@
 -- A rule gives a goal at most one list of subgoals for the same arguments.
 use Rattle.std.proofs.Common.{◌≡◌, ◌≤◌, ◌<◌, inl, inr, ℕ, ◌+◌, List, [], ◌∷◌, ◌++◌, map, length, true, nat_eq, Option, Some, refl, sym, ap, ◌∙◌, subst, arith}
 use Rattle.std.specs.Prelude.{◌&&◌, All, IsTrue, IsSome, is_some}
-use Rattle.std.specs.List.{IsDistinct, flat_map}
+use Rattle.std.specs.List.{IsDistinct}
 use Rattle.std.proofs.lemmas.List.Elements.{All-weaker}
 use Rattle.mp_logic.specs.declared.sym.Sym.{Sym}
 use Rattle.mp_term.specs.declared.term.Term.{Var}
 use Rattle.mp_term.specs.declared.sequent.Sequent.{Sequent}
 use Rattle.mp_term.specs.Terms.{in_scope_of}
-use Rattle.mp_term.specs.Subst.{sub_of}
+use Rattle.mp_term.specs.Subst.{sub_of, upto}
 use Rattle.mp_schema.specs.declared.schema.Schema.{Schema}
 use Rattle.mp_schema.specs.Conditions.{nothing_before, past_all, is_known, has_two_contexts}
-use Rattle.mp_schema.specs.Instances.{upto}
 use Rattle.mp_schema.specs.Occurrences.{In, occurrences_in_schema, holes_in_schema}
 use Rattle.mp_schema.specs.Sequents.{Instance, first_spot, ground_at, wide_of, behind_all, seq}
 use Rattle.mp_schema.specs.Solutions.{AgreeOn, GivesGoal}
-use Rattle.mp_schema.proofs.Agreeing.{and_both, SameAt, SameHole, same_seq}
-use Rattle.mp_schema.proofs.Lists.{in-flat}
+use Rattle.mp_schema.proofs.Agreeing.{and_both, SameAt}
 use Rattle.mp_schema.proofs.OneGoal.{one_instance, ground_same, ground_distinct, ground_below}
 use Rattle.mp_schema.proofs.OnePattern.{renaming-injective}
 use Rattle.mp_match.proofs.GivenLaws.{given-distinct, given-below}
@@ -27,12 +25,12 @@ use Rattle.mp_theory.specs.declared.just.Given.{Given}
 use Rattle.mp_theory.specs.Needs.{needs_of}
 use Rattle.mp_theory.specs.Tables.{IsRule, is_faultless}
 use Rattle.mp_refiner.specs.RuleStep.{given_variables, Meets, MeetsAll, RuleStep}
-use Rattle.mp_theory.proofs.Transfer.{kind_of_need, transfer}
-use Rattle.mp_refiner.specs.laws.Sound.{IsSound, sound}
-use Rattle.mp_refiner.specs.laws.Asked.{need_known}
-use Rattle.mp_refiner.specs.laws.Meeting.{given-width}
-use Rattle.mp_refiner.specs.laws.Filled.{has-in, has_all-in}
-use Rattle.mp_refiner.specs.laws.Matched.{sized_where_two}
+use Rattle.mp_theory.proofs.Transfer.{kind_of_need}
+use Rattle.mp_theory.proofs.Sound.{IsSound, sound}
+use Rattle.mp_theory.proofs.ForNeeds.{need_known}
+use Rattle.mp_refiner.proofs.Meeting.{given-width}
+use Rattle.mp_theory.proofs.SamePremises.{same_premises}
+use Rattle.mp_refiner.proofs.Matched.{sized_where_two}
 
 module _ (rule : Rule) (first : Option ℕ) (given : List Given) (goal : Sequent) (whole : IsRule rule) (many : length goal.hyps ≤ 200) (said : IsTrue (has_two_contexts rule.concl) → IsSome first)
     (v w : Instance) (gives_v : GivesGoal rule.concl first goal v) (gives_w : GivesGoal rule.concl first goal w) where
@@ -91,23 +89,8 @@ module _ (rule : Rule) (first : Option ℕ) (given : List Given) (goal : Sequent
     needed =
         needs_same needs given (λ n j. j) (subst (λ ns. MeetsAll v rule.concl ns given) whole.needs meets_v) (subst (λ ns. MeetsAll w rule.concl ns given) whole.needs meets_w)
 
-    same_holes : (p : Schema) → In p rule.premises → (name : Sym) → In name (holes_in_schema p) → SameHole v w name
-    same_holes p j name k =
-        let there = in-flat holes_in_schema rule.premises p name j k in
-        alike.params name
-        (has-in (holes_in_schema rule.concl) name (has_all-in (holes_in_schema rule.concl) (flat_map holes_in_schema rule.premises) name is_sound.filled there))
-
-    same_kid : (p : Schema) → In p rule.premises → seq v p ≡ seq w p
-    same_kid p j =
-        same_seq v w (gives_v.ambient ∙ sym gives_w.ambient) p (is_sound.placed p j)
-        (λ o k. transfer rule.premises rule.concl is_sound.even (SameAt v w) alike.values needed p o j k) (same_holes p j)
-
-    same_kids : (ps : List Schema) → ((p : Schema) → In p ps → In p rule.premises) → map (seq v) ps ≡ map (seq w) ps
-    same_kids [] k = refl
-    same_kids (p ∷ ps) k =
-        let here = same_kid p (k p (inl refl)) in
-        let rest = same_kids ps (λ q j. k q (inr j)) in
-        rw (here, rest) refl
+    pub same_kids : map (seq v) rule.premises ≡ map (seq w) rule.premises
+    same_kids = same_premises rule.premises rule.concl is_sound v w (gives_v.ambient ∙ sym gives_w.ambient) alike.values alike.params needed
 
 -- the first size is said where there are two contexts
 said_of : (rule : Rule) (first : Option ℕ) (given : List Given) → IsTrue (is_allowed_at (Some rule) first given) → IsTrue (has_two_contexts rule.concl) → IsSome first
@@ -119,4 +102,4 @@ said_of rule first given allowed =
 pub one_list : (rule : Rule) (first : Option ℕ) (given : List Given) (goal : Sequent) (kids others : List Sequent) → IsRule rule → length goal.hyps ≤ 200 → RuleStep rule first given goal kids →
     RuleStep rule first given goal others → kids ≡ others
 one_list rule first given goal kids others whole many s t =
-    s.kids_are ∙ same_kids rule first given goal whole many (said_of rule first given s.allowed) s.instance t.instance s.match t.match s.meets t.meets rule.premises (λ p j. j) ∙ sym t.kids_are
+    s.kids_are ∙ same_kids rule first given goal whole many (said_of rule first given s.allowed) s.instance t.instance s.match t.match s.meets t.meets ∙ sym t.kids_are

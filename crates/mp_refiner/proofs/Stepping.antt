@@ -1,6 +1,7 @@
 -- From what the parts of a step answer to the step.
-use Rattle.std.proofs.Common.{◌≡◌, ℕ, List, map, Bool, true, false, Option, Some, None, if◌then◌else◌, All, sym, ap, ◌∙◌, subst}
-use Rattle.std.specs.Prelude.{Result, Ok, Err, IfOk, IfSome, IsTrue, length}
+use Rattle.std.proofs.Common.{◌≡◌, ℕ, List, map, Bool, true, false, Option, Some, None, if◌then◌else◌, All, refl, sym, ap, ◌∙◌, subst}
+use Rattle.std.specs.Prelude.{Result, Ok, Err, IfOk, IfSome, IsTrue, length, ◌≤◌, ◌↔◌}
+use Rattle.std.specs.List.{list_all}
 use Rattle.mp_logic.specs.declared.logic.StepErr.{StepErr}
 use Rattle.mp_logic.specs.Steps.{Outcome, IsAnswer}
 use Rattle.mp_term.specs.declared.sequent.Sequent.{Sequent}
@@ -15,18 +16,22 @@ use Rattle.mp_theory.specs.declared.rule.Need.{Need}
 use Rattle.mp_theory.specs.declared.rule.Rule.{Rule}
 use Rattle.mp_theory.specs.declared.just.Given.{Given}
 use Rattle.mp_theory.specs.Needs.{needs_of}
-use Rattle.mp_theory.specs.Tables.{IsRule}
+use Rattle.mp_theory.specs.Tables.{Laws, IsRule, rule_at, width_of}
+use Rattle.mp_term.specs.Limits.{within_limits_of}
 use Rattle.mp_refiner.specs.Ready.{IsUsable, AreNew, IsReady}
-use Rattle.mp_refiner.specs.Steps.{given_all, limited, outcome_given, outcome_of}
-use Rattle.mp_refiner.specs.laws.Asked.{IsAsked, need_usable, needs_new}
-use Rattle.mp_refiner.specs.laws.Filled.{gives_made}
-use Rattle.mp_refiner.specs.laws.Goods.{ready, AreGood, rule_keeps_good}
+use Rattle.mp_refiner.specs.Steps.{given_all, if_each, outcome_given, outcome_of}
+use Rattle.mp_refiner.specs.Lawful.{if_matched}
+use Rattle.mp_match.specs.Walks.{match_of}
+use Rattle.mp_theory.proofs.Laws.{width_is_enough}
+use Rattle.std.proofs.lemmas.List.{length-map}
+use Rattle.mp_refiner.proofs.Asked.{IsAsked, need_usable, needs_new}
+use Rattle.mp_refiner.proofs.Filled.{gives_made}
+use Rattle.mp_refiner.proofs.Goods.{ready, good_exactly}
 use Rattle.mp_schema.proofs.Lists.{in-all}
-use Rattle.mp_refiner.specs.laws.Matched.{IsMatch}
+use Rattle.mp_refiner.proofs.Matched.{IsMatch}
 use Rattle.mp_refiner.proofs.Whole.{given_is, one_outcome, no_instance}
-use Rattle.mp_logic.specs.declared.logic.Why.TheVariants.{NoMatch, BadArgument}
-use Rattle.mp_theory.specs.Allowed.{is_allowed_at}
-use Rattle.mp_refiner.specs.laws.Widths.{AtMost, rule_narrow}
+use Rattle.mp_logic.specs.declared.logic.Why.TheVariants.{NoMatch, BadArgument, TooLarge}
+use Rattle.mp_theory.specs.Allowed.{is_good, is_allowed_at}
 
 -- the match that is answered
 pub match_made : (s : Schema) (first : Option ℕ) (goal : Sequent) (matched : Option Inst) (i : Inst) → matched ≡ Some i → IsInstance s first goal matched →
@@ -78,12 +83,14 @@ module _ (rule : Rule) (first : Option ℕ) (given : List Given) (goal : Sequent
             subst (All (IsReady (instance_of new))) (sym same)
             (in-all (IsReady (instance_of new)) rule.premises (ready rule.premises rule.concl first given goal a i is new all))
 
-        pub step_answer : (ps : List Schema) → ps ≡ rule.premises → (r : Result (List Sequent) StepErr) → IsAnswer (limited (map (seq (instance_of new)) ps)) r →
+        pub step_answer : (ps : List Schema) → ps ≡ rule.premises → (r : Result (List Sequent) StepErr) → IsAnswer (if_each within_limits_of (map (seq (instance_of new)) ps)) r →
             IsAnswer (outcome_of rule first given goal) r
         step_answer ps same r answer =
-            let e : outcome_of rule first given goal ≡ limited (map (seq (instance_of new)) ps) =
+            let e : outcome_of rule first given goal ≡ if_each within_limits_of (map (seq (instance_of new)) ps) =
             one_outcome rule first given goal whole.needs allowed a (outcome_given rule (given_all (needs_of rule.premises rule.concl) given i)) (given_is rule first given goal whole.needs allowed a i is)
-            ∙ ap (outcome_given rule) all ∙ ap (λ qs. limited (map (seq (instance_of new)) qs)) (sym same) in
+            ∙ ap (outcome_given rule) all
+            ∙ ap (λ (b : Bool). if b then Ok (map (seq (instance_of new)) rule.premises) else Err TooLarge) (good_exactly rule.premises rule.concl first given goal a i is new all)
+            ∙ ap (λ qs. if_each within_limits_of (map (seq (instance_of new)) qs)) (sym same) in
             subst (λ o. IsAnswer o r) (sym e) answer
 
 -- what holds of the outcome's subgoals holds of the answer's
@@ -92,8 +99,20 @@ answer_has P o (Ok kids) a h = rw a at h
 answer_has P o (Err e) a h = tt
 
 module _ (rule : Rule) (first : Option ℕ) (given : List Given) (goal : Sequent) (r : Result (List Sequent) StepErr) (answer : IsAnswer (outcome_of rule first given goal) r) where
-  pub answer_good : IsAsked rule.premises rule.concl first given goal → IfOk r AreGood
-  answer_good a = answer_has AreGood (outcome_of rule first given goal) r answer (rule_keeps_good rule first given goal a)
+  -- the subgoals that are answered are good
+  pub answer_good : IfOk r (λ kids. IsTrue (list_all is_good kids))
+  answer_good = answer_has (λ kids. IsTrue (list_all is_good kids)) (outcome_of rule first given goal) r answer
+      (if_matched (λ kids. IsTrue (list_all is_good kids)) rule given (match_of rule.concl first goal) (λ i h. h))
 
-  pub answer_narrow : IfOk r (AtMost (length rule.premises))
-  answer_narrow = answer_has (AtMost (length rule.premises)) (outcome_of rule first given goal) r answer (rule_narrow rule first given goal)
+  -- they are no more than the width
+  pub answer_narrow : (t : Laws) (place : ℕ) → Some rule ≡ rule_at t place → IfOk r (λ kids. length kids ≤ width_of t)
+  answer_narrow t place e = answer_has (λ kids. length kids ≤ width_of t) (outcome_of rule first given goal) r answer
+      (if_matched (λ kids. length kids ≤ width_of t) rule given (match_of rule.concl first goal)
+      (λ i h. subst (λ n. n ≤ width_of t) (sym (length-map rule.premises (seq (instance_of i)))) ((width_is_enough t place).0 rule (sym e))))
+
+-- two tests of one fact are the same
+pub same_test : (r s : Bool) (P : Type 0) → (IsTrue r ↔ P) → (IsTrue s ↔ P) → r ≡ s
+same_test true true P f g = refl
+same_test false false P f g = refl
+same_test true false P f g = let k = g.1 (f.0 refl) in absurd cc
+same_test false true P f g = let k = f.1 (g.0 refl) in absurd cc

@@ -1,6 +1,6 @@
 -- A step by a rule is what instances say.
 use Rattle.std.proofs.Common.{◌≡◌, inl, inr, zero, suc, ℕ, List, [], ◌∷◌, map, Bool, true, false, Option, Some, None, if◌then◌else◌, refl, sym, ap, ◌∙◌, subst, arith}
-use Rattle.std.specs.Prelude.{◌↔◌, IsTrue, Ok, Err, slice_get}
+use Rattle.std.specs.Prelude.{◌↔◌, IsTrue, Ok, Err}
 use Rattle.std.specs.List.{list_all}
 use Rattle.std.proofs.lemmas.Grind.{common_steps}
 use Rattle.mp_logic.specs.declared.logic.Why.TheVariants.{NoMatch, BadArgument, BadAddress, UnderBinder, TooLarge}
@@ -18,16 +18,18 @@ use Rattle.mp_theory.specs.declared.just.Given.{Given}
 use Rattle.mp_theory.specs.declared.just.Just.{Just}
 use Rattle.mp_theory.specs.declared.just.Just.TheVariants as just
 use Rattle.mp_theory.specs.Needs.{needs_of}
-use Rattle.mp_theory.specs.Tables.{IsRule, AreRules}
-use Rattle.mp_refiner.specs.Law.{Misgiven, LargeStep, IsRuleStep, IsStepAt, IsStep}
+use Rattle.mp_theory.specs.Tables.{Laws, rule_at, IsRule, IsTheory}
+use Rattle.mp_theory.proofs.Laws.{rules_of_theories}
+use Rattle.mp_refiner.specs.Law.{Misgiven, LargeStep, IsRuleStep, IsStepAt, IsStep, StepLaw, UnallowedLaw}
 use Rattle.mp_refiner.specs.RuleStep.{MeetsAll, RuleStep}
 use Rattle.mp_theory.specs.Allowed.{is_allowed, is_allowed_at, is_good}
-use Rattle.mp_refiner.specs.Steps.{given_all, outcome_given, outcome_matched, outcome_of, outcome_at, step_of_rules}
-use Rattle.mp_refiner.specs.laws.Asked.{IsAsked, asked}
-use Rattle.mp_refiner.specs.laws.Filled.{agrees_itself, gives_first, agrees_given, gives_made, meets_made, same_kid, premise_fits}
+use Rattle.mp_refiner.specs.Steps.{given_all, outcome_given, outcome_matched, outcome_of, outcome_at}
+use Rattle.mp_refiner.proofs.Goods.{good_exactly}
+use Rattle.mp_refiner.proofs.Asked.{IsAsked, asked}
+use Rattle.mp_refiner.proofs.Filled.{agrees_itself, gives_first, agrees_given, gives_made, meets_made, same_kids, premise_fits}
 use Rattle.mp_schema.specs.Occurrences.{In}
 use Rattle.mp_schema.proofs.Lists.{value_or, in-each, each-all}
-use Rattle.mp_refiner.specs.laws.Matched.{IsMatch, no_match, some_match}
+use Rattle.mp_refiner.proofs.Matched.{IsMatch, no_match, some_match}
 
 abbrev kids_or : List Sequent → Outcome Sequent → List Sequent
 kids_or d (Ok kids) = kids
@@ -101,18 +103,11 @@ module _ (rule : Rule) (first : Option ℕ) (given : List Given) (goal : Sequent
           kids_are = refl;
         }
 
-        same_each : (v : Instance) → Agrees v new → (ps : List Schema) → ((p : Schema) → In p ps → In p rule.premises) → map (seq v) ps ≡ map (seq made) ps
-        same_each v x [] k = refl
-        same_each v x (p ∷ ps) k =
-            let here = same_kid rule.premises rule.concl first given goal a i is new all v made x (agrees_itself new) p (k p (inl refl)) in
-            let rest = same_each v x ps (λ q j. k q (inr j)) in
-            rw (here, rest) refl
-
         only : (kids : List Sequent) → RuleStep rule first given goal kids → kids ≡ found
         only kids s =
             let r = agrees_with s.instance s.match s.meets in
             let same : r.0 ≡ new = ap (value_or new) (sym r.1.0 ∙ all) in
-            s.kids_are ∙ same_each s.instance (subst (Agrees s.instance) same r.1.1) rule.premises (λ p j. j)
+            s.kids_are ∙ same_kids rule.premises rule.concl first given goal a i is new all s.instance made (subst (Agrees s.instance) same r.1.1) (agrees_itself new)
 
         met : Misgiven rule first given goal → ⊥
         met m = m.none made gives (subst (λ ns. MeetsAll made rule.concl ns given) (sym needs) meets)
@@ -139,7 +134,10 @@ module _ (rule : Rule) (first : Option ℕ) (given : List Given) (goal : Sequent
 
       given_cases : (o : Option Inst) → given_all (needs_of rule.premises rule.concl) given i ≡ o → IsSettled (outcome_given rule o)
       given_cases None e = bad_case e
-      given_cases (Some new) e = given_case new e (list_all within_limits_of (map (seq (instance_of new)) rule.premises)) refl
+      given_cases (Some new) e =
+          let kids = map (seq (instance_of new)) rule.premises in
+          subst (λ (b : Bool). IsSettled (if b then Ok kids else Err TooLarge)) (sym (good_exactly rule.premises rule.concl first given goal a i is new e))
+          (given_case new e (list_all within_limits_of kids) refl)
 
       -- whichever match it is, the outcome by it is settled
       pub given_is : IsSettled (outcome_given rule (given_all (needs_of rule.premises rule.concl) given i))
@@ -169,29 +167,23 @@ module _ (rule : Rule) (first : Option ℕ) (given : List Given) (goal : Sequent
     pub no_instance : ((v : Instance) → GivesGoal rule.concl first goal v → ⊥) → outcome_of rule first given goal ≡ Err NoMatch
     no_instance none = one_outcome (Err NoMatch) (none_case none)
 
-rule-at : (rules : List Rule) (place : ℕ) (rule : Rule) → slice_get rules place ≡ Some rule → AreRules rules → IsRule rule
-rule-at [] place rule e h = absurd (grind (arith, common_steps, e))
-rule-at (r ∷ rs) zero rule e h = let same : r ≡ rule = cc in subst IsRule same h.0
-rule-at (r ∷ rs) (suc place) rule e h = rule-at rs place rule e h.1
-
-at_rule : (rules : List Rule) (place : ℕ) (first : Option ℕ) (given : List Given) (goal : Sequent) (outcome : Outcome Sequent) (o : Option Rule) → slice_get rules place ≡ o → AreRules rules →
+at_rule : (t : Laws) (place : ℕ) (first : Option ℕ) (given : List Given) (goal : Sequent) (outcome : Outcome Sequent) (o : Option Rule) → rule_at t place ≡ o → IsTheory t →
     IsTrue (is_allowed_at o first given) → IsTrue (is_good goal) → (outcome_at o first given goal ≡ outcome) ↔ IsStepAt o first given goal outcome
-at_rule rules place first given goal outcome None e whole allowed good = absurd cc
-at_rule rules place first given goal outcome (Some rule) e whole allowed good =
-    let r = rule-at rules place rule e whole in
+at_rule t place first given goal outcome None e whole allowed good = absurd cc
+at_rule t place first given goal outcome (Some rule) e whole allowed good =
+    let r = rules_of_theories t place rule whole e in
     let a = asked rule first given goal allowed good in
     let s = step_is rule first given goal r.needs allowed a in
     let same : outcome_at (Some rule) first given goal ≡ outcome_of rule first given goal = rw allowed refl in
     let k = exactly rule first given goal r.needs allowed a (outcome_of rule first given goal) outcome s in
     (λ h. k.0 (sym same ∙ h), λ h. same ∙ k.1 h)
 
-pub whole_law : (rules : List Rule) (j : Just) (goal : Sequent) (outcome : Outcome Sequent) → AreRules rules → IsTrue (is_allowed rules j) → IsTrue (is_good goal) →
-    (step_of_rules rules j goal ≡ outcome) ↔ IsStep rules j goal outcome
-whole_law rules (just.Rule place first given) goal outcome whole allowed good = at_rule rules place first given goal outcome (slice_get rules place) refl whole allowed good
+pub steps_by_instances : StepLaw
+steps_by_instances t (just.Rule place first given) goal outcome whole allowed good = at_rule t place first given goal outcome (rule_at t place) refl whole allowed good
 
 unallowed_at : (o : Option Rule) (first : Option ℕ) (given : List Given) (goal : Sequent) → is_allowed_at o first given ≡ false → outcome_at o first given goal ≡ Err NoMatch
 unallowed_at None first given goal e = refl
 unallowed_at (Some rule) first given goal e = rw e refl
 
-pub unallowed : (rules : List Rule) (j : Just) (goal : Sequent) → is_allowed rules j ≡ false → step_of_rules rules j goal ≡ Err NoMatch
-unallowed rules (just.Rule place first given) goal e = unallowed_at (slice_get rules place) first given goal e
+pub unallowed_steps : UnallowedLaw
+unallowed_steps t (just.Rule place first given) goal e = unallowed_at (rule_at t place) first given goal e

@@ -1,5 +1,5 @@
--- What the steps of a list of rules are, in terms of instances.
-use Rattle.std.specs.Prelude.{◌≡◌, ◌≤◌, ◌↔◌, ℕ, length, List, true, false, Option, Some, None, Ok, Err, slice_get, IsTrue}
+-- What a theory's steps are, in terms of instances.
+use Rattle.std.specs.Prelude.{◌≡◌, ◌≤◌, ◌↔◌, ℕ, length, List, true, false, Option, Some, None, Ok, Err, IsTrue}
 use Rattle.std.specs.List.{list_all}
 use Rattle.mp_logic.specs.declared.logic.Why.TheVariants.{NoMatch, BadArgument, BadAddress, UnderBinder, TooLarge}
 use Rattle.mp_logic.specs.Steps.{Outcome}
@@ -10,11 +10,11 @@ use Rattle.mp_theory.specs.declared.rule.Rule.{Rule}
 use Rattle.mp_theory.specs.declared.just.Given.{Given}
 use Rattle.mp_theory.specs.declared.just.Just.{Just}
 use Rattle.mp_theory.specs.declared.just.Just.TheVariants as just
-use Rattle.mp_theory.specs.Tables.{IsRule, AreRules}
+use Rattle.mp_theory.specs.Tables.{Laws, rule_at, IsRule, IsTheory}
 use Rattle.mp_schema.specs.Solutions.{GivesGoal}
 use Rattle.mp_refiner.specs.RuleStep.{MeetsAll, RuleStep}
 use Rattle.mp_theory.specs.Allowed.{is_allowed, is_good}
-use Rattle.mp_refiner.specs.Steps.{step_of_rules}
+use Rattle.mp_refiner.specs.Steps.{meaning_of}
 
 -- some instance has the goal as the conclusion, and none of them meets the needs as they are given
 pub record Misgiven (rule : Rule) (first : Option ℕ) (given : List Given) (goal : Sequent) : Type 0 where
@@ -43,21 +43,21 @@ IsStepAt None first given goal outcome = outcome ≡ Err NoMatch
 IsStepAt (Some rule) first given goal outcome = IsRuleStep rule first given goal outcome
 
 -- the outcome is what instances say of the step, by cases on what the step is by
-abbrev pub IsStep : List Rule → Just → Sequent → Outcome Sequent → Type 0
-IsStep rules (just.Rule place first given) goal outcome = IsStepAt (slice_get rules place) first given goal outcome
+abbrev pub IsStep : Laws → Just → Sequent → Outcome Sequent → Type 0
+IsStep t (just.Rule place first given) goal outcome = IsStepAt (rule_at t place) first given goal outcome
 
 -- a step by an allowed justification on a good goal has exactly the outcome that instances say
 abbrev pub StepLaw : Type 0
 StepLaw =
-    (rules : List Rule) (j : Just) (goal : Sequent) (outcome : Outcome Sequent) → AreRules rules → IsTrue (is_allowed rules j) → IsTrue (is_good goal) →
-    (step_of_rules rules j goal ≡ outcome) ↔ IsStep rules j goal outcome
+    (t : Laws) (j : Just) (goal : Sequent) (outcome : Outcome Sequent) → IsTheory t → IsTrue (is_allowed t j) → IsTrue (is_good goal) →
+    ((meaning_of t).step j goal ≡ outcome) ↔ IsStep t j goal outcome
 
 -- a justification that isn't allowed gives no subgoals
 abbrev pub UnallowedLaw : Type 0
-UnallowedLaw = (rules : List Rule) (j : Just) (goal : Sequent) → is_allowed rules j ≡ false → step_of_rules rules j goal ≡ Err NoMatch
+UnallowedLaw = (t : Laws) (j : Just) (goal : Sequent) → is_allowed t j ≡ false → (meaning_of t).step j goal ≡ Err NoMatch
 
--- a rule of a theory gives a goal of at most 200 hypotheses at most one list of subgoals for the same arguments, whatever
--- else the goal and the given terms are
+-- a rule of a theory gives a goal of at most 200 hypotheses at most one list of subgoals for the same allowed arguments,
+-- whatever else the goal is
 abbrev pub OneListOfSubgoals : Type 0
 OneListOfSubgoals =
     (rule : Rule) (first : Option ℕ) (given : List Given) (goal : Sequent) (kids others : List Sequent) → IsRule rule → length goal.hyps ≤ 200 → RuleStep rule first given goal kids →

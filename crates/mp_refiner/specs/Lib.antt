@@ -1,5 +1,5 @@
 pub mod Law
+pub mod Lawful
 pub mod Ready
 pub mod RuleStep
 pub mod Steps
-pub mod laws

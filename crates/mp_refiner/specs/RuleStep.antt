@@ -4,9 +4,8 @@ use Rattle.std.specs.List.{list_all}
 use Rattle.mp_term.specs.declared.term.Term.{Var}
 use Rattle.mp_term.specs.declared.sequent.Sequent.{Sequent}
 use Rattle.mp_term.specs.Terms.{in_scope_of}
-use Rattle.mp_term.specs.Subst.{sub_of}
+use Rattle.mp_term.specs.Subst.{sub_of, upto}
 use Rattle.mp_schema.specs.declared.schema.Schema.{Schema}
-use Rattle.mp_schema.specs.Instances.{upto}
 use Rattle.mp_schema.specs.Sequents.{Instance, seq, schema_fits, ground_at, wide_of, behind_all, first_spot}
 use Rattle.mp_schema.specs.Solutions.{GivesGoal}
 use Rattle.mp_theory.specs.declared.rule.Need.{Need}

@@ -1,10 +1,12 @@
--- The step of a logic whose rules stand in a list.
-use Rattle.std.specs.Prelude.{ℕ, max, length, List, [], ◌∷◌, map, if◌then◌else◌, Option, Some, None, option_and_then, Ok, Err, slice_get}
+-- The logic of a theory.
+use Rattle.std.specs.Prelude.{ℕ, List, [], ◌∷◌, map, Bool, true, false, ◌&&◌, if◌then◌else◌, Option, Some, None, option_and_then, Ok, Err}
 use Rattle.std.specs.List.{list_all}
 use Rattle.mp_logic.specs.declared.logic.Why.TheVariants.{NoMatch, BadArgument, TooLarge}
+use Rattle.mp_logic.specs.Meaning.{Meaning}
 use Rattle.mp_logic.specs.Steps.{Outcome}
 use Rattle.mp_term.specs.declared.sequent.Sequent.{Sequent}
-use Rattle.mp_term.specs.Limits.{within_limits_of}
+use Rattle.mp_term.specs.declared.term.Term.{Term}
+use Rattle.mp_term.specs.Equality.{same_term}
 use Rattle.mp_schema.specs.declared.instance.Inst.{Inst}
 use Rattle.mp_schema.specs.Sequents.{seq}
 use Rattle.mp_schema.specs.Values.{instance_of}
@@ -15,8 +17,9 @@ use Rattle.mp_theory.specs.declared.rule.Rule.{Rule}
 use Rattle.mp_theory.specs.declared.just.Given.{Given}
 use Rattle.mp_theory.specs.declared.just.Just.{Just}
 use Rattle.mp_theory.specs.declared.just.Just.TheVariants as just
-use Rattle.mp_theory.specs.Allowed.{is_allowed_at}
+use Rattle.mp_theory.specs.Allowed.{is_good, is_allowed_at, is_allowed}
 use Rattle.mp_theory.specs.Needs.{needs_of}
+use Rattle.mp_theory.specs.Tables.{Laws, rule_at, width_of}
 
 -- the instance with the values of the needs; None if a given term uses another variable than its need may
 abbrev pub given_all : List Need → List Given → Inst → Option Inst
@@ -24,14 +27,18 @@ given_all [] gs i = Some i
 given_all (n ∷ ns) [] i = Some i
 given_all (n ∷ ns) (g ∷ gs) i = option_and_then (given_all ns gs) (given_to i n.name n.ctxs n.arity g.body)
 
--- the subgoals, if each is within the limits
-abbrev pub limited : List Sequent → Outcome Sequent
-limited kids = if list_all within_limits_of kids then Ok kids else Err TooLarge
+-- these subgoals, if each passes the test; else one of them is too large
+abbrev pub if_each : (Sequent → Bool) → List Sequent → Outcome Sequent
+if_each test kids = if list_all test kids then Ok kids else Err TooLarge
 
--- the subgoals by the instance with what is given, if there is one
+-- the instances of the rule's premises, in order
+abbrev pub kids_of : Rule → Inst → List Sequent
+kids_of rule i = map (seq (instance_of i)) rule.premises
+
+-- the subgoals by the instance with what is given, if there is one and each subgoal is good
 abbrev pub outcome_given : Rule → Option Inst → Outcome Sequent
 outcome_given rule None = Err BadArgument
-outcome_given rule (Some i) = limited (map (seq (instance_of i)) rule.premises)
+outcome_given rule (Some i) = if_each is_good (kids_of rule i)
 
 -- the subgoals by the instance that matches, if there is one
 abbrev pub outcome_matched : Rule → List Given → Option Inst → Outcome Sequent
@@ -39,7 +46,7 @@ outcome_matched rule given None = Err NoMatch
 outcome_matched rule given (Some i) = outcome_given rule (given_all (needs_of rule.premises rule.concl) given i)
 
 -- the subgoals of the goal by the rule, or the first refusal: the goal is no instance of the conclusion; a given term
--- names a hypothesis that it may not; a subgoal isn't within the limits
+-- names a hypothesis that it may not; a subgoal isn't a good goal
 abbrev pub outcome_of : Rule → Option ℕ → List Given → Sequent → Outcome Sequent
 outcome_of rule first given goal = outcome_matched rule given (match_of rule.concl first goal)
 
@@ -49,10 +56,20 @@ outcome_at None first given goal = Err NoMatch
 outcome_at (Some rule) first given goal = if is_allowed_at (Some rule) first given then outcome_of rule first given goal else Err NoMatch
 
 -- the step by a justification; one that isn't allowed gives no subgoals
-abbrev pub step_of_rules : List Rule → Just → Sequent → Outcome Sequent
-step_of_rules rules (just.Rule place first given) goal = outcome_at (slice_get rules place) first given goal
+abbrev pub step_by : Laws → Just → Sequent → Outcome Sequent
+step_by t (just.Rule place first given) goal = outcome_at (rule_at t place) first given goal
 
--- the greatest number of premises
-abbrev pub width_of_rules : List Rule → ℕ
-width_of_rules [] = 0
-width_of_rules (rule ∷ rules) = max (length rule.premises) (width_of_rules rules)
+-- the lists have the same terms in the same order
+abbrev pub same_terms : List Term → List Term → Bool
+same_terms [] [] = true
+same_terms [] (u ∷ us) = false
+same_terms (t ∷ ts) [] = false
+same_terms (t ∷ ts) (u ∷ us) = same_term t u && same_terms ts us
+
+-- the sequents have the same hypotheses and the same conclusion
+abbrev pub same_goal : Sequent → Sequent → Bool
+same_goal a b = same_terms a.hyps b.hyps && same_term a.concl b.concl
+
+-- what the logic of a theory means: its goals are sequents, and its steps are by the theory's laws
+abbrev pub meaning_of : Laws → Meaning Sequent Just
+meaning_of t = record { good = is_good; allowed = is_allowed t; step = step_by t; same = same_goal; width = width_of t }

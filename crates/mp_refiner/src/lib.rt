@@ -1,6 +1,6 @@
 //! The refiner: the one place where proof steps are made.
 //!
-//! `Refiner` is the logic of a theory: its goals are sequents, and its steps are by the theory's rules. A step matches
+//! `Refiner` is the logic of a theory: its goals are sequents, and its steps are by the theory's laws. A step by a rule matches
 //! the rule's conclusion with the goal, puts the given terms for what the premises need, and builds the premises.
 //! `specs/RuleStep.antt` says what a rule gives a goal, in terms of instances; `step_law` says that a step is just that.
 #![tactic(auto)]

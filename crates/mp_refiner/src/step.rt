@@ -1,12 +1,12 @@
-ghost use Rattle.std.specs.Prelude.{◌≡◌, ◌≤◌, length, IsTrue, IfOk, map, All, if◌then◌else◌};
-ghost use Rattle.std.specs.List.{list_all};
+ghost use Rattle.std.specs.Prelude.{◌≡◌, IsTrue, IfOk, map, All, if◌then◌else◌};
 ghost use Rattle.mp_logic.specs.Steps.{IsAnswer};
+ghost use Rattle.mp_term.specs.Limits.{within_limits_of};
 ghost use Rattle.mp_schema.specs.Sequents.{seq};
 ghost use Rattle.mp_schema.specs.Values.{instance_of};
 ghost use Rattle.mp_theory.specs.Tables.{IsRule};
 ghost use Rattle.mp_refiner.specs.Ready.{IsUsable, AreNew, IsReady};
 ghost use Rattle.mp_theory.specs.Allowed.{is_good, is_allowed_at, are_for};
-ghost use Rattle.mp_refiner.specs.Steps.{given_all, limited, outcome_of};
+ghost use Rattle.mp_refiner.specs.Steps.{given_all, if_each, outcome_of};
 
 use mp_build::{BuildErr, build_sequent};
 use mp_logic::{List, NoMemory, StepErr, Why};
@@ -16,7 +16,7 @@ use mp_term::Sequent;
 use mp_theory::{Given, Need, Rule};
 use std::alloc::Global;
 
-/// The subgoals of the goal by the rule. They are good, and there are as many as premises.
+/// The subgoals of the goal by the rule, or the first refusal.
 pub(crate) fn rule_step(
     alloc: Global,
     rule: &Rule,
@@ -27,9 +27,7 @@ pub(crate) fn rule_step(
     requires rule { IsRule rule.now }
     requires allowed { IsTrue (is_allowed_at (Some rule.now) first given.now) }
     requires good { IsTrue (is_good goal.now) }
-    ensures answer { IsAnswer (outcome_of rule.now first given.now goal.now) result }
-    ensures good { IfOk result (λ kids. IsTrue (list_all is_good kids)) }
-    ensures narrow { IfOk result (λ kids. length kids ≤ length rule.now.premises) }
+    ensures { IsAnswer (outcome_of rule.now first given.now goal.now) result }
 {
     let Ok(matched) = match_sequent(alloc, &rule.concl, first, goal) else {
         return Err(StepErr::NoMemory);
@@ -76,7 +74,7 @@ fn give_all(
 fn build_kids(alloc: Global, premises: &[Schema], inst: &Inst) -> Result<List<Sequent>, StepErr>
     requires closed { inst.now.ambient ≡ 0 }
     requires ready { All (IsReady (instance_of inst.now)) premises.now }
-    ensures { IsAnswer (limited (map (seq (instance_of inst.now)) premises.now)) result }
+    ensures { IsAnswer (if_each within_limits_of (map (seq (instance_of inst.now)) premises.now)) result }
 {
     let mut kids = List::new(alloc);
     for premise in premises {

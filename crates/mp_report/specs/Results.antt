@@ -7,7 +7,7 @@ use Rattle.mp_names.specs.Table.{text_of}
 use Rattle.mp_term.specs.declared.sequent.Sequent.{Sequent}
 use Rattle.mp_termtext.specs.Printing.{sequent_text}
 use Rattle.mp_theory.specs.declared.just.Just.{Just}
-use Rattle.mp_theory.specs.declared.rule.Rule.{Rule}
+use Rattle.mp_theory.specs.Tables.{Laws}
 use Rattle.mp_strategy.specs.declared.outcome.Kind.{Kind}
 use Rattle.mp_strategy.specs.declared.outcome.Kind.TheVariants as kind
 use Rattle.mp_strategy.specs.declared.outcome.Outcome.{Outcome}
@@ -34,11 +34,11 @@ leaves_text (suc n) = decimal (counted (suc n)) ++ codes " open"
 
 -- what stands after the goal's name: that the tree is closed, or how many leaves are open, and the lines of the tree;
 -- or the failure's kind, the number of its strategy counted from 1, and its goal
-abbrev pub outcome_text : List (List ℕ) → List Rule → List Just → Outcome Sequent → List ℕ
-outcome_text names rules justs (outcome.Tree t) = leaves_text (leaf_count_of t) ++ codes "\n" ++ tree_text names rules justs t []
-outcome_text names rules justs (outcome.Failure f) =
+abbrev pub outcome_text : List (List ℕ) → Laws → List Just → Outcome Sequent → List ℕ
+outcome_text names theory justs (outcome.Tree t) = leaves_text (leaf_count_of t) ++ codes "\n" ++ tree_text names theory justs t []
+outcome_text names theory justs (outcome.Failure f) =
     codes "failed " ++ kind_text f.kind ++ codes " at strategy " ++ decimal (f.tac.0 + 1) ++ codes " | " ++ sequent_text names f.goal ++ codes "\n"
 
 -- the block of a goal
-abbrev pub result_text : List (List ℕ) → List Rule → Sym → List Just → Outcome Sequent → List ℕ
-result_text names rules name justs o = codes "goal " ++ text_of names name.0 ++ codes ": " ++ outcome_text names rules justs o
+abbrev pub result_text : List (List ℕ) → Laws → Sym → List Just → Outcome Sequent → List ℕ
+result_text names theory name justs o = codes "goal " ++ text_of names name.0 ++ codes ": " ++ outcome_text names theory justs o

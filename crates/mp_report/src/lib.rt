@@ -5,6 +5,6 @@ mod refusal;
 mod result;
 mod trace;
 
-pub use refusal::{FileKind, push_file, refusal_text};
-pub use result::result_text;
-pub use trace::trace_text;
+pub use refusal::{FileKind, push_file, push_refusal, refusal_text};
+pub use result::{push_result, result_text};
+pub use trace::{push_trace, trace_text};

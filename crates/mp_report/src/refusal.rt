@@ -23,17 +23,26 @@ pub fn refusal_text(alloc: Global, file: FileKind, error: &TextErr) -> Result<Te
     ensures { IfOk result (λ text. text ≡ refusal_text_of file error.now) }
 {
     let mut out = Vec::new(alloc);
-    push_bytes(&mut out, b"refused: ")?;
-    push_file(&mut out, file)?;
-    push_bytes(&mut out, b" byte ")?;
-    push_decimal(&mut out, error.at)?;
-    push_bytes(&mut out, b": ")?;
-    push_why(&mut out, error.why)?;
-    push_bytes(&mut out, b"\n")?;
+    push_refusal(&mut out, file, error)?;
     Ok(List::from_vec(out))
 }
 
-/// Appends the word for what a file is read as.
+/// Appends the line of a file that is refused. Where there is no memory, some of it may have been
+/// appended.
+pub fn push_refusal(out: &mut Vec<u8>, file: FileKind, error: &TextErr) -> Result<(), NoMemory>
+    ensures { OnOk result (out.new.items ≡ out.old.items ++ refusal_text_of file error.now) }
+{
+    push_bytes(out, b"refused: ")?;
+    push_file(out, file)?;
+    push_bytes(out, b" byte ")?;
+    push_decimal(out, error.at)?;
+    push_bytes(out, b": ")?;
+    push_why(out, error.why)?;
+    push_bytes(out, b"\n")
+}
+
+/// Appends the word for what a file is read as. Where there is no memory, some of it may have been
+/// appended.
 pub fn push_file(out: &mut Vec<u8>, file: FileKind) -> Result<(), NoMemory>
     ensures { OnOk result (out.new.items ≡ out.old.items ++ file_text file) }
 {

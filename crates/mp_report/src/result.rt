@@ -1,5 +1,6 @@
 ghost use Rattle.std.specs.Prelude.{◌≡◌, ◌++◌, ◌+◌, [], OnOk, IfOk};
 ghost use Rattle.mp_logic.specs.Trees.{leaf_count_of};
+ghost use Rattle.mp_theory.specs.Tables.{no_laws};
 ghost use Rattle.mp_report.specs.Results.{kind_text, leaves_text, outcome_text};
 ghost use Rattle.mp_report.specs.Results.{result_text as result_text_of};
 
@@ -25,11 +26,26 @@ pub fn result_text(
     ensures { IfOk result (λ text. text ≡ result_text_of names.now theory.now name justs.now outcome.now) }
 {
     let mut out = Vec::new(alloc);
-    push_bytes(&mut out, b"goal ")?;
-    push_bytes(&mut out, names.text(name))?;
-    push_bytes(&mut out, b": ")?;
-    push_outcome(alloc, &mut out, names, theory, justs, outcome)?;
+    push_result(alloc, &mut out, names, theory, name, justs, outcome)?;
     Ok(List::from_vec(out))
+}
+
+/// Appends the block of a goal. Where there is no memory, some of it may have been appended.
+pub fn push_result(
+    alloc: Global,
+    out: &mut Vec<u8>,
+    names: &Names,
+    theory: &Theory,
+    name: Sym,
+    justs: &List<Just>,
+    outcome: &Outcome<Sequent>,
+) -> Result<(), NoMemory>
+    ensures { OnOk result (out.new.items ≡ out.old.items ++ result_text_of names.now theory.now name justs.now outcome.now) }
+{
+    push_bytes(out, b"goal ")?;
+    push_bytes(out, names.text(name))?;
+    push_bytes(out, b": ")?;
+    push_outcome(alloc, out, names, theory, justs, outcome)
 }
 
 /// Appends what stands behind the goal's name.
@@ -71,7 +87,7 @@ fn push_failure(
     names: &Names,
     failure: &Failure<Sequent>,
 ) -> Result<(), NoMemory>
-    ensures { OnOk result (out.new.items ≡ out.old.items ++ outcome_text names.now [] [] (Outcome.Failure failure.now)) }
+    ensures { OnOk result (out.new.items ≡ out.old.items ++ outcome_text names.now no_laws [] (Outcome.Failure failure.now)) }
 {
     push_bytes(out, b"failed ")?;
     push_kind(out, failure.kind)?;

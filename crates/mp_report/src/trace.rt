@@ -21,11 +21,25 @@ pub fn trace_text(
     ensures { IfOk result (λ text. text ≡ trace_text_of names.now name events.now replies.now) }
 {
     let mut out = Vec::new(alloc);
-    push_bytes(&mut out, b"drill ")?;
-    push_bytes(&mut out, names.text(name))?;
-    push_bytes(&mut out, b"\n")?;
-    push_lines(&mut out, events.as_slice(), replies.as_slice())?;
+    push_trace(&mut out, names, name, events, replies)?;
     Ok(List::from_vec(out))
+}
+
+/// Appends the text of a drill. Where there is no memory, some of it may have been appended.
+pub fn push_trace(
+    out: &mut Vec<u8>,
+    names: &Names,
+    name: Sym,
+    events: &List<Event>,
+    replies: &List<Reply>,
+) -> Result<(), NoMemory>
+    requires { length replies.now ≡ length events.now }
+    ensures { OnOk result (out.new.items ≡ out.old.items ++ trace_text_of names.now name events.now replies.now) }
+{
+    push_bytes(out, b"drill ")?;
+    push_bytes(out, names.text(name))?;
+    push_bytes(out, b"\n")?;
+    push_lines(out, events.as_slice(), replies.as_slice())
 }
 
 /// Appends a line for each event with its reply.

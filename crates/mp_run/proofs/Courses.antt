@@ -6,19 +6,19 @@ use Rattle.mp_ports.specs.Causes.{Rose, ReadCause}
 use Rattle.mp_ports.specs.Shelves.{Told}
 use Rattle.mp_ports.specs.declared.ports.ReadErr.{ReadErr}
 use Rattle.mp_ports.specs.declared.ports.ReadErr.TheVariants as err
-use Rattle.mp_theory.specs.declared.rule.Rule.{Rule}
+use Rattle.mp_theory.specs.Tables.{Laws, no_laws}
 use Rattle.mp_theorytext.specs.Reading.{ReadsTheory}
 use Rattle.mp_drill.specs.ScheduleReading.{ReadsSchedule}
 use Rattle.mp_scripttext.specs.declared.script.Entry.{Entry}
-use Rattle.mp_scripttext.specs.declared.script.Script.{Script as Goals}
 use Rattle.mp_scripttext.specs.Reading.{ReadsScript}
-use Rattle.mp_report.specs.declared.refusal.FileKind.{FileKind}
 use Rattle.mp_report.specs.declared.refusal.FileKind.TheVariants as kind
+use Rattle.mp_scripttext.specs.declared.script.Script.{Script as Goals}
+use Rattle.mp_report.specs.declared.refusal.FileKind.{FileKind}
 use Rattle.mp_run.specs.declared.stop.Stop.{Stop}
 use Rattle.mp_run.specs.declared.stop.Stop.TheVariants as stop
 use Rattle.mp_run.specs.Answers.{IsFrom, AllFrom, Keeps}
-use Rattle.mp_run.specs.Commands.{From, Named, Made, Source, Command}
-use Rattle.mp_run.specs.Loads.{third_part, input_part, after_script, loads}
+use Rattle.mp_run.specs.Commands.{From, Named, Made, Task, Seq, Drill, Command}
+use Rattle.mp_run.specs.Loads.{plan_part, after_script, loads}
 use Rattle.mp_run.specs.Parts.{Names, Reading, Part, gives, and_then, Answered, taken_from, SaysSo, says, read_as}
 
 -- how a part ends: with a value, by a refusal, by a fault of reading, or by want of memory
@@ -110,25 +110,18 @@ fair_read : {V : Type 0} (k : FileKind) (from : From) (reads : Reading V) → Is
 fair_read k from reads =
     fair_then (taken_from k from) (says k reads) (fair_taken k from) (λ text calls out h. no_call calls (course_of out) h.0 (said_ending k reads text out h.1))
 
-fair_third : (k : FileKind) (from : From) (goals : Goals) (names : Names) → IsFair (third_part k from goals names)
-fair_third kind.Schedule from goals names = fair_then _ _ (fair_read kind.Schedule from (ReadsSchedule (map (λ (e : Entry). e.name) goals.entries) names)) (λ said. fair_gives _)
-fair_third kind.Theory from goals names = λ calls out h. absurd h
-fair_third kind.Script from goals names = λ calls out h. absurd h
-fair_third kind.Trees from goals names = λ calls out h. absurd h
-fair_third kind.Jobs from goals names = λ calls out h. absurd h
-fair_third kind.Checkpoint from goals names = λ calls out h. absurd h
+fair_plan : (task : Task) (goals : Goals) (names : Names) → IsFair (plan_part task goals names)
+fair_plan Seq goals names = fair_gives _
+fair_plan (Drill schedule) goals names =
+    fair_then _ _ (fair_read kind.Schedule schedule (ReadsSchedule (map (λ (e : Entry). e.name) goals.entries) names)) (λ said. fair_gives _)
 
-fair_input : (third : Option Source) (goals : Goals) (names : Names) → IsFair (input_part third goals names)
-fair_input None goals names = fair_gives _
-fair_input (Some source) goals names = fair_third source.kind source.from goals names
-
-fair_after_script : (third : Option Source) (rules : List Rule) (script : Goals × Names) → IsFair (after_script third rules script)
-fair_after_script third rules script = fair_then _ _ (fair_input third script.0 script.1) (λ input. fair_gives _)
+fair_after_script : (task : Task) (theory : Laws) (script : Goals × Names) → IsFair (after_script task theory script)
+fair_after_script task theory script = fair_then _ _ (fair_plan task script.0 script.1) (λ plan. fair_gives _)
 
 pub fair_loads : (c : Command) → IsFair (loads c)
 fair_loads c =
-    fair_then _ _ (fair_read kind.Theory c.theory (ReadsTheory []))
-    (λ theory. fair_then _ _ (fair_read kind.Script c.script (ReadsScript theory.0 theory.1)) (λ script. fair_after_script c.third theory.0 script))
+    fair_then _ _ (fair_read kind.Theory c.theory (ReadsTheory no_laws []))
+    (λ theory. fair_then _ _ (fair_read kind.Script c.script (ReadsScript theory.0 theory.1)) (λ script. fair_after_script c.task theory.0 script))
 
 -- ## Shelves
 

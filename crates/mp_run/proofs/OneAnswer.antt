@@ -6,32 +6,22 @@ use Rattle.mp_ports.specs.Calls.{Read}
 use Rattle.mp_ports.specs.declared.ports.ReadErr.{ReadErr}
 use Rattle.mp_ports.specs.declared.ports.ReadErr.TheVariants as err
 use Rattle.mp_term.specs.declared.sequent.Sequent.{Sequent}
-use Rattle.mp_theory.specs.declared.rule.Rule.{Rule}
+use Rattle.mp_theory.specs.Tables.{Laws, no_laws}
 use Rattle.mp_strategy.specs.declared.work.Work.{Work}
 use Rattle.mp_strategy.specs.declared.outcome.Outcome.{Outcome}
 use Rattle.mp_words.specs.declared.word.Word.{Word}
-use Rattle.mp_words.specs.declared.fault.Fault.{Fault}
 use Rattle.mp_words.specs.declared.fail.TextErr.{TextErr}
 use Rattle.mp_words.specs.declared.fail.TextFail.TheVariants.{Bad}
-use Rattle.mp_words.specs.Texts.{OneText, ReadsText}
-use Rattle.mp_schematext.specs.Grammar.{IsTheory, StuckTheory}
+use Rattle.mp_words.specs.Grammars.{Parse}
+use Rattle.mp_words.specs.Texts.{Context, OneText, ReadsText}
 use Rattle.mp_theorytext.specs.Reading.{ReadsTheory, OneTheoryText}
-use Rattle.mp_theorytext.specs.Statics.{theory_faults}
-use Rattle.mp_theorytext.specs.Values.{rules_of}
 use Rattle.mp_scripttext.specs.declared.script.Entry.{Entry}
 use Rattle.mp_scripttext.specs.declared.script.Script.{Script as Goals}
-use Rattle.mp_scripttext.specs.Grammar.{IsScript, StuckScript}
 use Rattle.mp_scripttext.specs.Reading.{ReadsScript, OneScriptText}
-use Rattle.mp_scripttext.specs.Statics.{script_faults}
-use Rattle.mp_scripttext.specs.Values.{script_of}
 use Rattle.mp_drill.specs.declared.schedule.Event.{Event}
 use Rattle.mp_drill.specs.declared.schedule.Reply.{Reply}
 use Rattle.mp_drill.specs.Laws.{OneTrace}
-use Rattle.mp_drill.specs.ScheduleGrammar.{IsSchedule, StuckSchedule}
 use Rattle.mp_drill.specs.ScheduleReading.{ReadsSchedule, OneScheduleText}
-use Rattle.mp_drill.specs.ScheduleStatics.{schedule_faults}
-use Rattle.mp_drill.specs.ScheduleValues.{schedule_of}
-use Rattle.mp_drill.specs.Sections.{events_of}
 use Rattle.mp_report.specs.Refusals.{refusal_text}
 use Rattle.mp_report.specs.Traces.{trace_text}
 use Rattle.mp_report.specs.declared.refusal.FileKind.{FileKind}
@@ -42,13 +32,13 @@ use Rattle.mp_run.specs.declared.piece.Verdict.TheVariants.{Closed, Open, Ends}
 use Rattle.mp_run.specs.declared.status.Status.{Status}
 use Rattle.mp_run.specs.declared.stop.Stop.{Stop}
 use Rattle.mp_run.specs.declared.stop.Stop.TheVariants as stop
-use Rattle.mp_run.specs.Answers.{IsFrom, AllFrom, IsTold, ThirdIsTold, AreTold, Whole, Answers}
-use Rattle.mp_run.specs.Commands.{From, Named, Made, Source, Task, Seq, Drill, Command}
+use Rattle.mp_run.specs.Answers.{IsFrom, AllFrom, IsTold, TaskIsTold, AreTold, Whole, Answers}
+use Rattle.mp_run.specs.Commands.{From, Named, Made, Task, Seq, Drill, Command}
 use Rattle.mp_run.specs.Goals.{goal_work, goal_outcome, evaluate_in, IsBlock, IsEvaluated, IsDrilled}
 use Rattle.mp_run.specs.Lines.{limit_of}
-use Rattle.mp_run.specs.Loads.{Input, Nothing, Events, Said, third_part, input_part, loads}
+use Rattle.mp_run.specs.Loads.{Plan, Evaluated, Drilled, Said, plan_part, loads}
 use Rattle.mp_run.specs.Parts.{Names, Reading, Part, gives, and_then, Answered, taken_from, SaysSo, says, read_as}
-use Rattle.mp_run.specs.Sessions.{Others, Pieces, Says, DrillSays, status_of}
+use Rattle.mp_run.specs.Sessions.{Others, Pieces, IsPiece, Says, status_of}
 
 -- ## Parts
 
@@ -138,9 +128,8 @@ module _ (files : List ℕ → Option (List ℕ)) where
     pub not_both : (bytes : List ℕ) (v : V) (e : TextErr) (names others : Names) → reads bytes (Ok v) names → reads bytes (Err (Bad e)) others → ⊥
     pub fault : (bytes : List ℕ) (e f : TextErr) (names others : Names) → reads bytes (Err (Bad e)) names → reads bytes (Err (Bad f)) others → e ≡ f
 
-  text_read : {X V : Type 0} (Is : X → List Word → List Word → Type 0) (Stuck : List Word → List Word → Type 0) (faults : X → List Fault) (value : X → V) (old : Names)
-      → OneText Is Stuck faults value → OneReading (ReadsText Is Stuck faults value old)
-  text_read Is Stuck faults value old one = record {
+  text_read : {X V : Type 0} {g : List Word → Parse Word X} {passes : Context → X → List (List TextErr)} {value : X → V} (old : Names) → OneText g passes value → OneReading (ReadsText g passes value old)
+  text_read old one = record {
     value = λ bytes v w names others h k. (one.one_value old bytes v w h.0 k.0, h.1 ∙ sym k.1);
     not_both = λ bytes v e names others h k. one.apart old bytes v e h.0 k.0;
     fault = λ bytes e f names others h k. one.one_fault old bytes e f h.0 k.0;
@@ -165,26 +154,16 @@ module _ (files : List ℕ → Option (List ℕ)) where
       then_one (taken_from k from) (says k reads) (taken_one k from is) (λ text calls others x y f g h l a b. said_one k reads text x y one h.1 l.1 a b)
 
   module _ (theory : OneTheoryText) (script : OneScriptText) (schedule : OneScheduleText) where
-    third_one : (k : FileKind) (from : From) (goals : Goals) (names : Names) → IsTold files from → Determined (third_part k from goals names)
-    third_one kind.Schedule from goals names is =
-        let asked = map (λ (e : Entry). e.name) goals.entries in
-        then_one _ _ (read_one kind.Schedule from (ReadsSchedule asked names) is (text_read IsSchedule StuckSchedule (schedule_faults asked) schedule_of names (schedule asked))) (λ said. gives_one _)
-    third_one kind.Theory from goals names is = λ calls others x y f g h k a b. absurd h
-    third_one kind.Script from goals names is = λ calls others x y f g h k a b. absurd h
-    third_one kind.Trees from goals names is = λ calls others x y f g h k a b. absurd h
-    third_one kind.Jobs from goals names is = λ calls others x y f g h k a b. absurd h
-    third_one kind.Checkpoint from goals names is = λ calls others x y f g h k a b. absurd h
-
-    input_one : (third : Option Source) (goals : Goals) (names : Names) → ThirdIsTold files third → Determined (input_part third goals names)
-    input_one None goals names is = gives_one _
-    input_one (Some source) goals names is = third_one source.kind source.from goals names is
+    plan_one : (task : Task) (goals : Goals) (names : Names) → TaskIsTold files task → Determined (plan_part task goals names)
+    plan_one Seq goals names is = gives_one _
+    plan_one (Drill from) goals names is =
+        let asked = map (λ (e : Entry). e.name) goals.entries in then_one _ _ (read_one kind.Schedule from (ReadsSchedule asked names) is (text_read names (schedule asked))) (λ said. gives_one _)
 
     -- over files that are told the texts of a command say one thing
     pub loads_one : (c : Command) → AreTold files c → Determined (loads c)
     loads_one c told =
-        then_one _ _ (read_one kind.Theory c.theory (ReadsTheory []) told.0 (text_read IsTheory StuckTheory theory_faults rules_of [] theory))
-        (λ t. then_one _ _ (read_one kind.Script c.script (ReadsScript t.0 t.1) told.1 (text_read IsScript StuckScript (script_faults t.0) (script_of t.0) t.1 (script t.0)))
-        (λ s. then_one _ _ (input_one c.third s.0 s.1 told.2) (λ input. gives_one _)))
+        then_one _ _ (read_one kind.Theory c.theory (ReadsTheory no_laws []) told.0 (text_read [] (theory no_laws)))
+        (λ t. then_one _ _ (read_one kind.Script c.script (ReadsScript t.0 t.1) told.1 (text_read t.1 (script t.0))) (λ s. then_one _ _ (plan_one c.task s.0 s.1 told.2) (λ plan. gives_one _)))
 
 -- ## Pieces
 
@@ -207,44 +186,41 @@ pieces_one Is one (x ∷ xs) (p ∷ ps) (q ∷ qs) h k =
 same_piece : (p q : Piece) → p.text ≡ q.text → p.verdict ≡ q.verdict → p ≡ q
 same_piece p q e f = λ i. record { text = e i; verdict = f i }
 
-block_one : (names : Names) (rules : List Rule) (entry : Entry) (before : List ℕ) (o : Outcome Sequent) (p q : Piece) → IsBlock names rules entry before o p → IsBlock names rules entry before o q → p ≡ q
-block_one names rules entry before o p q h k = same_piece p q (h.text ∙ sym k.text) (h.verdict ∙ sym k.verdict)
+block_one : (names : Names) (theory : Laws) (entry : Entry) (before : List ℕ) (o : Outcome Sequent) (p q : Piece) → IsBlock names theory entry before o p → IsBlock names theory entry before o q → p ≡ q
+block_one names theory entry before o p q h k = same_piece p q (h.text ∙ sym k.text) (h.verdict ∙ sym k.verdict)
 
 module _ (one : (eval : Work Sequent → Outcome Sequent) → OneTrace eval) where
-  drilled_one : (names : Names) (rules : List Rule) (events : List Event) (entry : Entry) (p q : Piece) → IsDrilled names rules events entry p → IsDrilled names rules events entry q → p ≡ q
-  drilled_one names rules events entry p q h k =
-      let same = one (evaluate_in rules entry) (goal_work entry) events h.0 k.0 h.1 k.1 h.2 k.2 in
-      let there : IsBlock names rules entry (trace_text names entry.name events h.0) h.1 q =
-      subst (λ (rs : List Reply). IsBlock names rules entry (trace_text names entry.name events rs) h.1 q) (sym same.0)
-      (subst (λ (o : Outcome Sequent). IsBlock names rules entry (trace_text names entry.name events k.0) o q) (sym same.1) k.3) in
-      block_one names rules entry (trace_text names entry.name events h.0) h.1 p q h.3 there
+  drilled_one : (names : Names) (theory : Laws) (events : List Event) (entry : Entry) (p q : Piece) → IsDrilled names theory events entry p → IsDrilled names theory events entry q → p ≡ q
+  drilled_one names theory events entry p q h k =
+      let same = one (evaluate_in theory entry) (goal_work entry) events h.0 k.0 h.1 k.1 h.2 k.2 in
+      let there : IsBlock names theory entry (trace_text names entry.name events h.0) h.1 q =
+      subst (λ (rs : List Reply). IsBlock names theory entry (trace_text names entry.name events rs) h.1 q) (sym same.0)
+      (subst (λ (o : Outcome Sequent). IsBlock names theory entry (trace_text names entry.name events k.0) o q) (sym same.1) k.3) in
+      block_one names theory entry (trace_text names entry.name events h.0) h.1 p q h.3 there
 
-  drill_one : (input : Input) (said : Said) (ps qs : List Piece) → DrillSays input said ps → DrillSays input said qs → ps ≡ qs
-  drill_one Nothing said ps qs h k = absurd h
-  drill_one (Events sections) said ps qs h k =
-      pieces_one (λ (e : Entry). IsDrilled said.names said.rules (events_of sections e.name) e) (λ e p q a b. drilled_one said.names said.rules (events_of sections e.name) e p q a b) said.goals ps qs h k
+  piece_one : (plan : Plan) (names : Names) (theory : Laws) (entry : Entry) (p q : Piece) → IsPiece plan names theory entry p → IsPiece plan names theory entry q → p ≡ q
+  piece_one Evaluated names theory entry p q h k = block_one names theory entry [] (goal_outcome theory entry) p q h k
+  piece_one (Drilled events) names theory entry p q h k = drilled_one names theory (events entry.name) entry p q h k
 
-  says_one : (task : Task) (said : Said) (ps qs : List Piece) → Says task said ps → Says task said qs → ps ≡ qs
-  says_one Seq said ps qs h k =
-      pieces_one (IsEvaluated said.names said.rules) (λ e p q a b. block_one said.names said.rules e [] (goal_outcome said.rules e) p q a b) said.goals ps qs h k
-  says_one Drill said ps qs h k = drill_one said.input said ps qs h k
+  says_one : (said : Said) (ps qs : List Piece) → Says said ps → Says said qs → ps ≡ qs
+  says_one said ps qs h k = pieces_one (IsPiece said.plan said.names said.theory) (λ e p q a b. piece_one said.plan said.names said.theory e p q a b) said.goals ps qs h k
 
-  whole_one : (task : Task) (out : Result Said Stop) (s t : Status) (text bytes : List ℕ) → Whole task out s text → Whole task out t bytes → (s ≡ t) × (text ≡ bytes)
-  whole_one task (Ok said) s t text bytes h k =
-      let same = says_one task said h.0 k.0 h.1 k.1 in
+  whole_one : (out : Result Said Stop) (s t : Status) (text bytes : List ℕ) → Whole out s text → Whole out t bytes → (s ≡ t) × (text ≡ bytes)
+  whole_one (Ok said) s t text bytes h k =
+      let same = says_one said h.0 k.0 h.1 k.1 in
       (h.2 ∙ ap status_of same ∙ sym k.2, h.3 ∙ ap (λ (ps : List Piece). joined (map (λ (p : Piece). p.text) ps)) same ∙ sym k.3)
-  whole_one task (Err (stop.Refused line)) s t text bytes h k = (h.0 ∙ sym k.0, h.1 ∙ sym k.1)
-  whole_one task (Err (stop.Fault file)) s t text bytes h k = (h.0 ∙ sym k.0, h.1 ∙ sym k.1)
-  whole_one task (Err stop.NoMemory) s t text bytes h k = absurd h
+  whole_one (Err (stop.Refused line)) s t text bytes h k = (h.0 ∙ sym k.0, h.1 ∙ sym k.1)
+  whole_one (Err (stop.Fault file)) s t text bytes h k = (h.0 ∙ sym k.0, h.1 ∙ sym k.1)
+  whole_one (Err stop.NoMemory) s t text bytes h k = absurd h
 
-  whole_end : (task : Task) (out : Result Said Stop) (s : Status) (text : List ℕ) → Whole task out s text → IsEnd out
-  whole_end task (Ok said) s text h = tt
-  whole_end task (Err (stop.Refused line)) s text h = tt
-  whole_end task (Err (stop.Fault file)) s text h = tt
-  whole_end task (Err stop.NoMemory) s text h = h
+  whole_end : (out : Result Said Stop) (s : Status) (text : List ℕ) → Whole out s text → IsEnd out
+  whole_end (Ok said) s text h = tt
+  whole_end (Err (stop.Refused line)) s text h = tt
+  whole_end (Err (stop.Fault file)) s text h = tt
+  whole_end (Err stop.NoMemory) s text h = h
 
   pub one_answer : OneTheoryText → OneScriptText → OneScheduleText → (files : List ℕ → Option (List ℕ)) (c : Command) → AreTold files c
       → (s t : Status) (text bytes : List ℕ) → Answers files c s text → Answers files c t bytes → (s ≡ t) × (text ≡ bytes)
   one_answer theory script schedule files c told s t text bytes h k =
-      let same = loads_one files theory script schedule c told h.0 k.0 h.2 k.2 h.1 k.1 h.3 k.3 (whole_end c.task h.2 s text h.4) (whole_end c.task k.2 t bytes k.4) in
-      whole_one c.task h.2 s t text bytes h.4 (subst (λ (out : Result Said Stop). Whole c.task out t bytes) (sym same) k.4)
+      let same = loads_one files theory script schedule c told h.0 k.0 h.2 k.2 h.1 k.1 h.3 k.3 (whole_end h.2 s text h.4) (whole_end k.2 t bytes k.4) in
+      whole_one h.2 s t text bytes h.4 (subst (λ (out : Result Said Stop). Whole out t bytes) (sym same) k.4)

@@ -2,7 +2,7 @@
 use Rattle.std.proofs.Common.{◌≡◌, ℕ, List, [], ◌∷◌, map, true, false, Result, Ok, Err, refl, sym, subst, true≢false}
 use Rattle.mp_ports.specs.Calls.{Put, Chain}
 use Rattle.mp_ports.specs.declared.ports.PutFailed.{PutFailed}
-use Rattle.mp_theory.specs.declared.rule.Rule.{Rule}
+use Rattle.mp_theory.specs.Tables.{Laws}
 use Rattle.mp_scripttext.specs.declared.script.Entry.{Entry}
 use Rattle.mp_scripttext.specs.Entries.{IsGoodEntry, EachGood}
 use Rattle.mp_run.specs.declared.piece.Piece.{Piece}
@@ -41,16 +41,16 @@ status_ends Open before later e = absurd (true≢false (sym e))
 status_ends (Ends s) before later e = refl
 
 -- goals have pieces if each good one has one
-pub some_pieces : (rules : List Rule) (Is : Entry → Piece → Type 0) → ((e : Entry) → IsGoodEntry rules e → (p : Piece) × Is e p) → (es : List Entry) → EachGood rules es → (ps : List Piece) × Pieces Is es ps
-some_pieces rules Is some [] good = ([], tt)
-some_pieces rules Is some (e ∷ es) good =
+pub some_pieces : (theory : Laws) (Is : Entry → Piece → Type 0) → ((e : Entry) → IsGoodEntry theory e → (p : Piece) × Is e p) → (es : List Entry) → EachGood theory es → (ps : List Piece) × Pieces Is es ps
+some_pieces theory Is some [] good = ([], tt)
+some_pieces theory Is some (e ∷ es) good =
     let first = some e good.0 in
-    let others = some_others first.0.verdict (Pieces Is es) (some_pieces rules Is some es good.1) in
+    let others = some_others first.0.verdict (Pieces Is es) (some_pieces theory Is some es good.1) in
     (first.0 ∷ others.0, (first.1, others.1))
 
 -- ## The loop
 
-module _ {S : Type 0} (R : S → S → Put → Type 0) (rules : List Rule) (Is : Entry → Piece → Type 0) (entries : List Entry) (start : S) where
+module _ {S : Type 0} (R : S → S → Put → Type 0) (theory : Laws) (Is : Entry → Piece → Type 0) (entries : List Entry) (start : S) where
   -- the pieces of all goals are put
   abbrev pub All : S → Status → Type 0
   All end s = (calls : List Put) × Chain R start end calls × PutsPieces Is entries calls s
@@ -63,18 +63,18 @@ module _ {S : Type 0} (R : S → S → Put → Type 0) (rules : List Rule) (Is :
   pub begun : (waiting : List Entry) → waiting ≡ entries → Going waiting start status.AllClosed
   begun waiting w end calls s ps h k q = (calls, h, (ps, subst (λ (es : List Entry). Pieces Is es ps) w k, q))
 
-  module _ (waiting more : List Entry) (e : Entry) (now : S) (before : Status) (going : Going waiting now before) (w : waiting ≡ e ∷ more) (good : EachGood rules waiting) where
-    goods : EachGood rules (e ∷ more)
-    goods = subst (EachGood rules) w good
+  module _ (waiting more : List Entry) (e : Entry) (now : S) (before : Status) (going : Going waiting now before) (w : waiting ≡ e ∷ more) (good : EachGood theory waiting) where
+    goods : EachGood theory (e ∷ more)
+    goods = subst (EachGood theory) w good
 
     pieces : (p : Piece) (ps : List Piece) → Is e p → Others p.verdict (Pieces Is more) ps → Pieces Is waiting (p ∷ ps)
     pieces p ps h k = subst (λ (es : List Entry). Pieces Is es (p ∷ ps)) (sym w) (h, k)
 
     -- memory runs out before a piece is made
-    pub no_room : ((x : Entry) → IsGoodEntry rules x → (p : Piece) × Is x p) → All now status.NoMemory
+    pub no_room : ((x : Entry) → IsGoodEntry theory x → (p : Piece) × Is x p) → All now status.NoMemory
     no_room some =
         let first = some e goods.0 in
-        let others = some_others first.0.verdict (Pieces Is more) (some_pieces rules Is some more goods.1) in
+        let others = some_others first.0.verdict (Pieces Is more) (some_pieces theory Is some more goods.1) in
         going now [] status.NoMemory (first.0 ∷ others.0) refl (pieces first.0 others.0 first.1 others.1) refl
 
     module _ (p : Piece) (bytes : List ℕ) (later : S) (is : Is e p) (b : bytes ≡ p.text) where
@@ -94,9 +94,9 @@ module _ {S : Type 0} (R : S → S → Put → Type 0) (rules : List Rule) (Is :
           (refl, status_ends p.verdict before (status_after []) e)
 
       -- a put failed
-      pub fails : (failed : PutFailed) → R now later (put_of bytes (Err failed)) → ((x : Entry) → IsGoodEntry rules x → (p : Piece) × Is x p) → All later status.WriteFault
+      pub fails : (failed : PutFailed) → R now later (put_of bytes (Err failed)) → ((x : Entry) → IsGoodEntry theory x → (p : Piece) × Is x p) → All later status.WriteFault
       fails failed h some =
-          let others = some_others p.verdict (Pieces Is more) (some_pieces rules Is some more goods.1) in
+          let others = some_others p.verdict (Pieces Is more) (some_pieces theory Is some more goods.1) in
           going later (put_of p.text (Err failed) ∷ []) status.WriteFault (p ∷ others.0) (later, called (Err failed) h, refl) (pieces p others.0 is others.1) (refl, (refl, refl))
 
   -- no goal waits

@@ -7,6 +7,7 @@ use Rattle.mp_ports.specs.Causes.{Quiet, ReadCause, PutCause}
 use Rattle.mp_ports.specs.Shelves.{Told}
 use Rattle.mp_ports.specs.Sinks.{PutTakes}
 use Rattle.mp_ports.specs.declared.ports.PutFailed.{PutFailed}
+use Rattle.mp_theory.specs.Tables.{Laws}
 use Rattle.mp_scripttext.specs.declared.script.Entry.{Entry}
 use Rattle.mp_run.specs.declared.piece.Piece.{Piece}
 use Rattle.mp_run.specs.declared.piece.Verdict.{Verdict}
@@ -16,12 +17,13 @@ use Rattle.mp_run.specs.declared.status.Status.TheVariants as status
 use Rattle.mp_run.specs.declared.stop.Stop.{Stop}
 use Rattle.mp_run.specs.declared.stop.Stop.TheVariants as stop
 use Rattle.mp_run.specs.Answers.{Whole, Answers, WritesOf, WholeUsage, Writes, RunCause, Keeps}
-use Rattle.mp_run.specs.Commands.{Task, Seq, Drill, Command, usage_line}
+use Rattle.mp_run.specs.Commands.{Command, usage_line}
 use Rattle.mp_run.specs.Goals.{is_closed_outcome}
 use Rattle.mp_run.specs.Lines.{fault_line}
-use Rattle.mp_run.specs.Loads.{Input, Nothing, Events, Said}
-use Rattle.mp_run.specs.Sessions.{Others, Pieces, status_on, status_after, status_of, Says, DrillSays, Then, Puts, PutsLine, Ended as PutsEnded, CommandSession, Session}
-use Rattle.mp_run.proofs.Courses.{course_of, Counts, IsDone, Follows, fair_loads, counts, keeps, all_from}
+use Rattle.mp_run.specs.Loads.{Plan, Evaluated, Drilled, Said}
+use Rattle.mp_run.specs.Parts.{Names}
+use Rattle.mp_run.specs.Sessions.{Others, Pieces, status_on, status_after, status_of, IsPiece, Says, Then, Puts, PutsLine, Ended as PutsEnded, CommandSession, Session}
+use Rattle.mp_run.proofs.Courses.{course_of, Counts, IsDone, Follows, fair_loads, counts, all_from}
 use Rattle.mp_run.proofs.Written.{Ended, all_written, lacking, failing, written, line_written, none_written}
 
 -- ## The status of goals
@@ -53,14 +55,12 @@ plain_if : (b : Bool) (v : Verdict) → v ≡ (if b then Closed else Open) → I
 plain_if true v e = inl e
 plain_if false v e = inr e
 
-drill_status : (input : Input) (said : Said) (ps : List Piece) → DrillSays input said ps → OfGoals (status_of ps)
-drill_status Nothing said ps h = absurd h
-drill_status (Events sections) said ps h =
-    goals_status _ (λ (e : Entry) p k. plain_if (is_closed_outcome k.1) p.verdict k.3.verdict) said.goals ps h status.AllClosed (inl refl)
+piece_is_plain : (plan : Plan) (names : Names) (theory : Laws) (entry : Entry) (p : Piece) → IsPiece plan names theory entry p → IsPlain p.verdict
+piece_is_plain Evaluated names theory entry p h = plain_if (is_closed_outcome _) p.verdict h.verdict
+piece_is_plain (Drilled events) names theory entry p h = plain_if (is_closed_outcome h.1) p.verdict h.3.verdict
 
-says_status : (task : Task) (said : Said) (ps : List Piece) → Says task said ps → OfGoals (status_of ps)
-says_status Seq said ps h = goals_status _ (λ (e : Entry) p k. plain_if (is_closed_outcome _) p.verdict k.verdict) said.goals ps h status.AllClosed (inl refl)
-says_status Drill said ps h = drill_status said.input said ps h
+says_status : (said : Said) (ps : List Piece) → Says said ps → OfGoals (status_of ps)
+says_status said ps h = goals_status (IsPiece said.plan said.names said.theory) (λ e p k. piece_is_plain said.plan said.names said.theory e p k) said.goals ps h status.AllClosed (inl refl)
 
 -- ## Causes
 
@@ -117,41 +117,38 @@ module _ {S T : Type 0} (R : S → S → Read → Type 0) (bytes : S → List �
   counted : (out : Result Said Stop) → Follows reads (course_of out) → Counts (course_of out) (reads_faults s) (reads_faults t)
   counted out h = counts R bytes reads_faults longs read_cause s t reads (course_of out) read h
 
-  pub keeps_all : Keeps (bytes s) (bytes t)
-  keeps_all = keeps R bytes reads_faults longs kept s t reads read
-
   -- what is written of a command
-  ended_writes : (task : Task) (out : Result Said Stop) (final : Status) → PutsEnded task out puts final → Wrote (WritesOf (Whole task out) final)
-  ended_writes task (Ok said) final h =
+  ended_writes : (out : Result Said Stop) (final : Status) → PutsEnded out puts final → Wrote (WritesOf (Whole out) final)
+  ended_writes (Ok said) final h =
       let w = pieces_put h.0 (status_of h.0) final h.2 in
-      (w.0, w.1, writes_by (Whole task (Ok said)) _ w.0 (status_of h.0) final _ _ w.2 (λ t e. (h.0, h.1, refl, e)))
-  ended_writes task (Err (stop.Refused line)) final h =
+      (w.0, w.1, writes_by (Whole (Ok said)) _ w.0 (status_of h.0) final _ _ w.2 (λ t e. (h.0, h.1, refl, e)))
+  ended_writes (Err (stop.Refused line)) final h =
       let w = line_put line status.Refused final h in
-      (w.0, w.1, writes_by (Whole task (Err (stop.Refused line))) _ w.0 status.Refused final _ _ w.2 (λ t e. (refl, alone line t e)))
-  ended_writes task (Err (stop.Fault file)) final (inl h) =
+      (w.0, w.1, writes_by (Whole (Err (stop.Refused line))) _ w.0 status.Refused final _ _ w.2 (λ t e. (refl, alone line t e)))
+  ended_writes (Err (stop.Fault file)) final (inl h) =
       let w = line_put (fault_line file) status.ReadFault final h in
-      (w.0, w.1, writes_by (Whole task (Err (stop.Fault file))) _ w.0 status.ReadFault final _ _ w.2 (λ t e. (refl, alone (fault_line file) t e)))
-  ended_writes task (Err (stop.Fault file)) final (inr h) = ([], nothing_put final h.0, inr (inr (h.1, refl)))
-  ended_writes task (Err stop.NoMemory) final h = ([], nothing_put final h.0, inr (inr (h.1, refl)))
+      (w.0, w.1, writes_by (Whole (Err (stop.Fault file))) _ w.0 status.ReadFault final _ _ w.2 (λ t e. (refl, alone (fault_line file) t e)))
+  ended_writes (Err (stop.Fault file)) final (inr h) = ([], nothing_put final h.0, inr (inr (h.1, refl)))
+  ended_writes (Err stop.NoMemory) final h = ([], nothing_put final h.0, inr (inr (h.1, refl)))
 
   pub session_writes : (c : Option Command) (final : Status) → Session c reads puts final → Wrote (Writes c reads final)
   session_writes None final h =
       let w = line_put usage_line status.Usage final h.1 in
       (w.0, w.1, writes_by WholeUsage _ w.0 status.Usage final _ _ w.2 (λ t e. (refl, alone usage_line t e)))
-  session_writes (Some c) final h = let w = ended_writes c.task h.0 final h.2 in (w.0, w.1, (h.0, h.1, w.2))
+  session_writes (Some c) final h = let w = ended_writes h.0 final h.2 in (w.0, w.1, (h.0, h.1, w.2))
 
   -- the cause of a status
-  ended_cause : (task : Task) (out : Result Said Stop) (final : Status) → Follows reads (course_of out) → PutsEnded task out puts final
+  ended_cause : (out : Result Said Stop) (final : Status) → Follows reads (course_of out) → PutsEnded out puts final
       → RunCause final (reads_faults s) (reads_faults t) (puts_faults o) (puts_faults p)
-  ended_cause task (Ok said) final f h =
+  ended_cause (Ok said) final f h =
       let w = pieces_put h.0 (status_of h.0) final h.2 in
-      caused _ w.0 (status_of h.0) final _ _ _ _ w.2 (λ k. goals_cause (status_of h.0) _ _ _ _ (says_status task said h.0 h.1) (counted (Ok said) f) k)
-  ended_cause task (Err (stop.Refused line)) final f h =
+      caused _ w.0 (status_of h.0) final _ _ _ _ w.2 (λ k. goals_cause (status_of h.0) _ _ _ _ (says_status said h.0 h.1) (counted (Ok said) f) k)
+  ended_cause (Err (stop.Refused line)) final f h =
       let w = line_put line status.Refused final h in caused _ w.0 status.Refused final _ _ _ _ w.2 (λ k. (counted (Err (stop.Refused line)) f, k))
-  ended_cause task (Err (stop.Fault file)) final f (inl h) =
+  ended_cause (Err (stop.Fault file)) final f (inl h) =
       let w = line_put (fault_line file) status.ReadFault final h in caused _ w.0 status.ReadFault final _ _ _ _ w.2 (λ k. (counted (Err (stop.Fault file)) f, k))
-  ended_cause task (Err (stop.Fault file)) final f (inr h) = subst (λ (x : Status). RunCause x (reads_faults s) (reads_faults t) (puts_faults o) (puts_faults p)) (sym h.1) tt
-  ended_cause task (Err stop.NoMemory) final f h = subst (λ (x : Status). RunCause x (reads_faults s) (reads_faults t) (puts_faults o) (puts_faults p)) (sym h.1) tt
+  ended_cause (Err (stop.Fault file)) final f (inr h) = subst (λ (x : Status). RunCause x (reads_faults s) (reads_faults t) (puts_faults o) (puts_faults p)) (sym h.1) tt
+  ended_cause (Err stop.NoMemory) final f h = subst (λ (x : Status). RunCause x (reads_faults s) (reads_faults t) (puts_faults o) (puts_faults p)) (sym h.1) tt
 
   nothing_read : reads ≡ [] → t ≡ s
   nothing_read e = subst (λ (cs : List Read). Chain R s t cs) e read
@@ -159,35 +156,35 @@ module _ {S T : Type 0} (R : S → S → Read → Type 0) (bytes : S → List �
   pub session_cause : (c : Option Command) (final : Status) → Session c reads puts final → RunCause final (reads_faults s) (reads_faults t) (puts_faults o) (puts_faults p)
   session_cause None final h =
       let w = line_put usage_line status.Usage final h.1 in caused _ w.0 status.Usage final _ _ _ _ w.2 (λ k. (ap reads_faults (nothing_read h.0), k))
-  session_cause (Some c) final h = ended_cause c.task h.0 final (fair_loads c reads h.0 h.1) h.2
+  session_cause (Some c) final h = ended_cause h.0 final (fair_loads c reads h.0 h.1) h.2
 
   -- the whole answer
-  ended_whole : (task : Task) (out : Result Said Stop) (final : Status) → Quiet (puts_faults o) (puts_faults p) → (final ≡ status.NoMemory → ⊥) → PutsEnded task out puts final → Wrote (Whole task out final)
-  ended_whole task (Ok said) final q m h =
+  ended_whole : (out : Result Said Stop) (final : Status) → Quiet (puts_faults o) (puts_faults p) → (final ≡ status.NoMemory → ⊥) → PutsEnded out puts final → Wrote (Whole out final)
+  ended_whole (Ok said) final q m h =
       let w = pieces_put h.0 (status_of h.0) final h.2 in
-      (w.0, w.1, whole_by (Whole task (Ok said)) _ w.0 (status_of h.0) final _ _ w.2 q m (λ t e. (h.0, h.1, refl, e)))
-  ended_whole task (Err (stop.Refused line)) final q m h =
+      (w.0, w.1, whole_by (Whole (Ok said)) _ w.0 (status_of h.0) final _ _ w.2 q m (λ t e. (h.0, h.1, refl, e)))
+  ended_whole (Err (stop.Refused line)) final q m h =
       let w = line_put line status.Refused final h in
-      (w.0, w.1, whole_by (Whole task (Err (stop.Refused line))) _ w.0 status.Refused final _ _ w.2 q m (λ t e. (refl, alone line t e)))
-  ended_whole task (Err (stop.Fault file)) final q m (inl h) =
+      (w.0, w.1, whole_by (Whole (Err (stop.Refused line))) _ w.0 status.Refused final _ _ w.2 q m (λ t e. (refl, alone line t e)))
+  ended_whole (Err (stop.Fault file)) final q m (inl h) =
       let w = line_put (fault_line file) status.ReadFault final h in
-      (w.0, w.1, whole_by (Whole task (Err (stop.Fault file))) _ w.0 status.ReadFault final _ _ w.2 q m (λ t e. (refl, alone (fault_line file) t e)))
-  ended_whole task (Err (stop.Fault file)) final q m (inr h) = absurd (m h.1)
-  ended_whole task (Err stop.NoMemory) final q m h = absurd (m h.1)
+      (w.0, w.1, whole_by (Whole (Err (stop.Fault file))) _ w.0 status.ReadFault final _ _ w.2 q m (λ t e. (refl, alone (fault_line file) t e)))
+  ended_whole (Err (stop.Fault file)) final q m (inr h) = absurd (m h.1)
+  ended_whole (Err stop.NoMemory) final q m h = absurd (m h.1)
 
   -- without a fault and with memory a run was done
-  is_done : (task : Task) (out : Result Said Stop) (final : Status) → Quiet (reads_faults s) (reads_faults t) → (final ≡ status.NoMemory → ⊥) → Follows reads (course_of out) → PutsEnded task out puts final → IsDone (course_of out)
-  is_done task (Ok said) final q m f h = tt
-  is_done task (Err (stop.Refused line)) final q m f h = tt
-  is_done task (Err (stop.Fault file)) final q m f h = omega (arith, q, counted (Err (stop.Fault file)) f)
-  is_done task (Err stop.NoMemory) final q m f h = m h.1
+  is_done : (out : Result Said Stop) (final : Status) → Quiet (reads_faults s) (reads_faults t) → (final ≡ status.NoMemory → ⊥) → Follows reads (course_of out) → PutsEnded out puts final → IsDone (course_of out)
+  is_done (Ok said) final q m f h = tt
+  is_done (Err (stop.Refused line)) final q m f h = tt
+  is_done (Err (stop.Fault file)) final q m f h = omega (arith, q, counted (Err (stop.Fault file)) f)
+  is_done (Err stop.NoMemory) final q m f h = m h.1
 
   pub session_answer : (c : Command) (final : Status) → CommandSession c reads puts final → Quiet (reads_faults s) (reads_faults t) → Quiet (puts_faults o) (puts_faults p) → (final ≡ status.NoMemory → ⊥)
       → Wrote (Answers (bytes s) c final)
   session_answer c final h q u m =
       let f = fair_loads c reads h.0 h.1 in
-      let w = ended_whole c.task h.0 final u m h.2 in
-      (w.0, w.1, (reads, all_from R bytes reads_faults longs kept told s t reads (course_of h.0) (is_done c.task h.0 final q m f h.2) read f, h.0, h.1, w.2))
+      let w = ended_whole h.0 final u m h.2 in
+      (w.0, w.1, (reads, all_from R bytes reads_faults longs kept told s t reads (course_of h.0) (is_done h.0 final q m f h.2) read f, h.0, h.1, w.2))
 
   usage_by : (answer : Result (Unit {0}) PutFailed) (final : Status) → Then answer (final ≡ status.Usage) [] final → (final ≡ status.Usage) ⊎ (final ≡ status.WriteFault)
   usage_by (Ok done) final h = inl h

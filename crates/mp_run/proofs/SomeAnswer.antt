@@ -1,41 +1,24 @@
 -- A command has an answer over files that are told.
-use Rattle.std.proofs.Common.{◌≡◌, ◌⊎◌, inl, inr, ℕ, ◌<◌, ◌≤◌, List, [], ◌∷◌, ◌++◌, ◌&&◌, map, length, Bool, true, false, Option, Some, None, IsSome, Result, Ok, Err, if◌then◌else◌, codes, refl, ap, sym, subst, ◌∙◌}
+use Rattle.std.proofs.Common.{◌≡◌, ◌⊎◌, inl, inr, ℕ, ◌<◌, ◌≤◌, List, [], ◌∷◌, ◌++◌, map, length, Option, Some, None, IsSome, Result, Ok, Err, refl, sym, subst}
 use Rattle.std.specs.Bool.{⊤}
 use Rattle.std.proofs.lemmas.Bool.{cases_lt}
-use Rattle.std.specs.Str.{bytes_eq, is_utf8}
 use Rattle.mp_logic.specs.Lists.{joined}
-use Rattle.mp_lex.specs.declared.token.Token.{Token}
-use Rattle.mp_lex.specs.Lex.{Lexing, lex}
 use Rattle.mp_ports.specs.Calls.{Read}
 use Rattle.mp_ports.specs.declared.ports.ReadErr.{ReadErr}
 use Rattle.mp_ports.specs.declared.ports.ReadErr.TheVariants as err
 use Rattle.mp_words.specs.declared.word.Word.{Word}
-use Rattle.mp_words.specs.declared.fault.Fault.{Fault}
 use Rattle.mp_words.specs.declared.fail.TextErr.{TextErr}
 use Rattle.mp_words.specs.declared.fail.TextFail.TheVariants.{Bad}
-use Rattle.mp_words.specs.declared.fail.TextWhy.TheVariants as why
-use Rattle.mp_words.specs.Faults.{least}
-use Rattle.mp_words.specs.Texts.{words_in, table_after, of_lexical, error_at, bad_token, stuck, broken, ReadsText}
-use Rattle.mp_words.proofs.Answering.{none_least}
-use Rattle.mp_theory.specs.declared.rule.Rule.{Rule}
-use Rattle.mp_theory.specs.Tables.{AreRules}
+use Rattle.mp_words.specs.Grammars.{Parse}
+use Rattle.mp_words.specs.Texts.{Context, IsText, IsFaulty, ReadsText, SomeText, table_after}
+use Rattle.mp_theory.specs.Tables.{Laws, IsTheory, no_laws}
 use Rattle.mp_refiner.specs.Law.{StepLaw}
-use Rattle.mp_schematext.specs.Grammar.{IsTheory, StuckTheory}
-use Rattle.mp_theorytext.specs.Reading.{ReadsTheory}
-use Rattle.mp_theorytext.specs.Statics.{theory_faults}
-use Rattle.mp_theorytext.specs.Values.{rules_of}
+use Rattle.mp_theorytext.specs.Reading.{ReadsTheory, SomeTheoryText}
 use Rattle.mp_scripttext.specs.declared.script.Entry.{Entry}
 use Rattle.mp_scripttext.specs.Entries.{EachGood}
 use Rattle.mp_scripttext.specs.declared.script.Script.{Script as Goals}
-use Rattle.mp_scripttext.specs.Grammar.{IsScript, StuckScript}
-use Rattle.mp_scripttext.specs.Reading.{ReadsScript}
-use Rattle.mp_scripttext.specs.Statics.{script_faults}
-use Rattle.mp_scripttext.specs.Values.{script_of}
-use Rattle.mp_drill.specs.declared.schedule.Section.{Section}
-use Rattle.mp_drill.specs.ScheduleGrammar.{IsSchedule, StuckSchedule}
-use Rattle.mp_drill.specs.ScheduleReading.{ReadsSchedule}
-use Rattle.mp_drill.specs.ScheduleStatics.{schedule_faults}
-use Rattle.mp_drill.specs.ScheduleValues.{schedule_of}
+use Rattle.mp_scripttext.specs.Reading.{ReadsScript, SomeScriptText}
+use Rattle.mp_drill.specs.ScheduleReading.{ReadsSchedule, SomeScheduleText}
 use Rattle.mp_drill.specs.Sections.{events_of}
 use Rattle.mp_report.specs.Refusals.{refusal_text}
 use Rattle.mp_report.specs.declared.refusal.FileKind.{FileKind}
@@ -45,20 +28,14 @@ use Rattle.mp_run.specs.declared.status.Status.{Status}
 use Rattle.mp_run.specs.declared.status.Status.TheVariants as status
 use Rattle.mp_run.specs.declared.stop.Stop.{Stop}
 use Rattle.mp_run.specs.declared.stop.Stop.TheVariants as stop
-use Rattle.mp_run.specs.Answers.{IsFrom, AllFrom, IsTold, ThirdIsTold, AreTold, Whole, Answers}
-use Rattle.mp_run.specs.Commands.{From, Named, Made, Drill, Command, command_of, schedule_source}
-use Rattle.mp_run.specs.Goals.{IsEvaluated, IsDrilled}
+use Rattle.mp_run.specs.Answers.{IsFrom, AllFrom, IsTold, TaskIsTold, AreTold, Whole, Answers}
+use Rattle.mp_run.specs.Commands.{From, Named, Made, Task, Seq, Drill, Command}
 use Rattle.mp_run.specs.Lines.{limit_of, long_line}
-use Rattle.mp_run.specs.Loaded.{command_on, task_of, third_of}
-use Rattle.mp_run.specs.Loads.{Input, Nothing, Events, Said, input_part, after_script, after_theory, loads}
+use Rattle.mp_run.specs.Loads.{Plan, Evaluated, Drilled, Said, plan_part, after_script, after_theory, loads}
 use Rattle.mp_run.specs.Parts.{Names, Reading, Part, gives, and_then, taken_from, read_of, says, read_as}
-use Rattle.mp_run.specs.Sessions.{Says, DrillSays, status_of}
+use Rattle.mp_run.specs.Sessions.{IsPiece, Says, status_of}
 use Rattle.mp_run.proofs.GoalPieces.{EachTrace, some_piece}
 use Rattle.mp_run.proofs.PutPieces.{some_pieces}
-use Rattle.mp_run.proofs.Total.{SomeReading}
-use Rattle.mp_run.proofs.TotalPatterns.{some_theory}
-use Rattle.mp_run.proofs.TotalScripts.{some_script}
-use Rattle.mp_run.proofs.TotalSchedules.{some_schedule}
 
 -- ## Texts
 
@@ -66,25 +43,14 @@ use Rattle.mp_run.proofs.TotalSchedules.{some_schedule}
 abbrev SaysSome : {V : Type 0} → Reading V → List ℕ → Type 0
 SaysSome {V} reads bytes = ((v : V) × (names : Names) × reads bytes (Ok v) names) ⊎ ((e : TextErr) × (names : Names) × reads bytes (Err (Bad e)) names)
 
-module _ {X V : Type 0} (Is : X → List Word → List Word → Type 0) (Stuck : List Word → List Word → Type 0) (faults : X → List Fault) (value : X → V) (names : Names) (source : List ℕ) where
-  abbrev Saying : Type 0
-  Saying = SaysSome (ReadsText Is Stuck faults value names) source
+module _ {X V : Type 0} {g : List Word → Parse Word X} {passes : Context → X → List (List TextErr)} {value : X → V} (old : Names) (source : List ℕ) where
+  said_so : ((v : V) × IsText g passes value old source v) ⊎ ((e : TextErr) × IsFaulty g passes value old source e) → SaysSome (ReadsText g passes value old) source
+  said_so (inl h) = inl (h.0, table_after old source, (h.1, refl))
+  said_so (inr h) = inr (h.0, table_after old source, (h.1, refl))
 
-  by_faults : (ts : List Token) (raw : X) → lex source ≡ Ok ts → Is raw (words_in names source ts) [] → (found : Option Fault) → least (faults raw) ≡ found → Saying
-  by_faults ts raw l is None f = inl (value raw, table_after names source, (record { tokens = ts; raw = raw; lexed = l; is = is; faultless = none_least (faults raw) f; has = refl }, refl))
-  by_faults ts raw l is (Some g) f = inr (error_at source ts g.left g.why, table_after names source, (broken ts raw g l is f refl, refl))
-
-  by_words : (ts : List Token) → lex source ≡ Ok ts → ((x : X) × Is x (words_in names source ts) []) ⊎ ((rest : List Word) × Stuck (words_in names source ts) rest) → Saying
-  by_words ts l (inl h) = by_faults ts h.0 l h.1 (least (faults h.0)) refl
-  by_words ts l (inr h) = inr (error_at source ts (length h.0) why.Syntax, table_after names source, (stuck ts h.0 l h.1 refl, refl))
-
-  by_tokens : SomeReading Is Stuck → (r : Lexing) → lex source ≡ r → Saying
-  by_tokens some (Ok ts) l = by_words ts l (some (words_in names source ts))
-  by_tokens some (Err f) l = inr (record { at = f.0; why = of_lexical f.1 }, table_after names source, (bad_token f.1 l refl, refl))
-
-  -- a text has a value or a fault where its words are read or stuck
-  some_text : SomeReading Is Stuck → Saying
-  some_text some = by_tokens some (lex source) refl
+  -- a text has a value or a fault
+  text_says : SomeText g passes value → SaysSome (ReadsText g passes value old) source
+  text_says some = said_so (some old source)
 
 -- ## Parts
 
@@ -148,22 +114,20 @@ module _ (files : List ℕ → Option (List ℕ)) where
   read_some : {V : Type 0} (k : FileKind) (from : From) (reads : Reading V) → IsTold files from → ((text : List ℕ) → SaysSome reads text) → Gives (read_as k from reads)
   read_some k from reads is some = then_some (taken_from k from) (says k reads) (taken_some k from is) (λ text. says_some k reads text (some text))
 
-  input_some : (schedule : Option (List ℕ)) (goals : Goals) (names : Names) → ThirdIsTold files (third_of schedule) → Gives (input_part (third_of schedule) goals names)
-  input_some None goals names is = gives_some (Nothing, names)
-  input_some (Some schedule) goals names is =
-      let asked = map (λ (e : Entry). e.name) goals.entries in
-      then_some _ _
-      (read_some kind.Schedule (Named schedule) (ReadsSchedule asked names) is (λ text. some_text IsSchedule StuckSchedule (schedule_faults asked) schedule_of names text some_schedule))
-      (λ said. gives_some (Events said.0, said.1))
+  module _ (theory : SomeTheoryText) (script : SomeScriptText) (schedule : SomeScheduleText) where
+    plan_some : (task : Task) (goals : Goals) (names : Names) → TaskIsTold files task → Gives (plan_part task goals names)
+    plan_some Seq goals names is = gives_some (Evaluated, names)
+    plan_some (Drill from) goals names is =
+        let asked = map (λ (e : Entry). e.name) goals.entries in
+        then_some _ _ (read_some kind.Schedule from (ReadsSchedule asked names) is (λ text. text_says names text (schedule asked))) (λ said. gives_some (Drilled (events_of said.0), said.1))
 
-  -- over files that are told the texts of a command say something
-  loads_some : (theory script : List ℕ) (schedule : Option (List ℕ)) → AreTold files (command_on theory script schedule) → Gives (loads (command_on theory script schedule))
-  loads_some theory script schedule told =
-      then_some _ _ (read_some kind.Theory (Named theory) (ReadsTheory []) told.0 (λ text. some_text IsTheory StuckTheory theory_faults rules_of [] text some_theory))
-      (λ t. then_some _ _ (read_some kind.Script (Named script) (ReadsScript t.0 t.1) told.1 (λ text. some_text IsScript StuckScript (script_faults t.0) (script_of t.0) t.1 text some_script))
-      (λ s. then_some _ _ (input_some schedule s.0 s.1 told.2) (λ input. gives_some _)))
+    -- over files that are told the texts of a command say something
+    loads_some : (c : Command) → AreTold files c → Gives (loads c)
+    loads_some c told =
+        then_some _ _ (read_some kind.Theory c.theory (ReadsTheory no_laws []) told.0 (λ text. text_says [] text (theory no_laws)))
+        (λ t. then_some _ _ (read_some kind.Script c.script (ReadsScript t.0 t.1) told.1 (λ text. text_says t.1 text (script t.0))) (λ s. then_some _ _ (plan_some c.task s.0 s.1 told.2) (λ plan. gives_some _)))
 
--- ## What is read after the script
+-- ## What is said is good
 
 ok_stop : {A : Type 0} (v : A) (w : Stop) → (let out : Result A Stop = Ok v in out ≡ Err w) → ⊥
 ok_stop v w e = cc
@@ -179,96 +143,45 @@ given_value : {A : Type 0} (value : A) (calls : List Read) (b : A) → gives val
 given_value value calls b (h, inl e) = ok_same b value e
 given_value value calls b (h, inr e) = absurd (ok_stop b stop.NoMemory e)
 
--- all that is said, by the rules, the script and what is read after it
-abbrev said_by : List Rule → Goals → Input × Names → Said
-said_by rules script input = record { names = input.1; rules = rules; goals = script.entries; input = input.0 }
-
-abbrev all_said : List Rule → Goals → Input × Names → Part Said
-all_said rules script input = gives (said_by rules script input)
-
--- a command with a schedule has its events
-has_events : (theory script schedule : List ℕ) (calls : List Read) (said : Said) → loads (command_on theory script (Some schedule)) calls (Ok said) → (sections : List Section) × (said.input ≡ Events sections)
-has_events theory script schedule calls said h =
-    let t = then_value (read_as kind.Theory (Named theory) (ReadsTheory [])) (after_theory (Named script) (Some (schedule_source schedule))) calls said h in
-    let s = then_value (read_as kind.Script (Named script) (ReadsScript t.0.0 t.0.1)) (after_script (Some (schedule_source schedule)) t.0.0) t.2 said t.4 in
-    let i = then_value (input_part (Some (schedule_source schedule)) s.0.0 s.0.1) (all_said t.0.0 s.0.0) s.2 said s.4 in
-    let e =
-    then_value (read_as kind.Schedule (Named schedule) (ReadsSchedule (map (λ (x : Entry). x.name) s.0.0.entries) s.0.1)) (λ (read : List Section × Names). gives (Events read.0, read.1)) i.1 i.0 i.3 in
-    let same : said ≡ said_by t.0.0 s.0.0 i.0 = given_value (said_by t.0.0 s.0.0 i.0) i.2 said i.4 in
-    let events : i.0 ≡ (Events e.0.0, e.0.1) = given_value (Events e.0.0, e.0.1) e.2 i.0 e.4 in
-    (e.0.0, ap (λ (x : Said). x.input) same ∙ ap (λ (x : Input × Names). x.0) events)
-
 read_value : {V : Type 0} (k : FileKind) (from : From) (reads : Reading V) (calls : List Read) (v : V × Names) → read_as k from reads calls (Ok v) → (text : List ℕ) × reads text (Ok v.0) v.1
 read_value k from reads calls v h = let r = then_value (taken_from k from) (says k reads) calls v h in (r.0, r.4.1)
 
--- the rules that are read are rules, and the goals that are read can be evaluated
-abbrev pub RulesLaw : Type 0
-RulesLaw = (names later : List (List ℕ)) (source : List ℕ) (rules : List Rule) → ReadsTheory names source (Ok rules) later → AreRules rules
+-- what is read onto a theory is a theory, and the goals that are read can be evaluated
+abbrev pub TheoriesLaw : Type 0
+TheoriesLaw = (t u : Laws) (names later : Names) (source : List ℕ) → IsTheory t → ReadsTheory t names source (Ok u) later → IsTheory u
 
 abbrev pub GoalsLaw : Type 0
-GoalsLaw = (rules : List Rule) (names later : List (List ℕ)) (source : List ℕ) (script : Goals) → AreRules rules → ReadsScript rules names source (Ok script) later → EachGood rules script.entries
+GoalsLaw = (theory : Laws) (names later : Names) (source : List ℕ) (script : Goals) → IsTheory theory → ReadsScript theory names source (Ok script) later → EachGood theory script.entries
 
-are_good : RulesLaw → GoalsLaw → (theory script : List ℕ) (schedule : Option (List ℕ)) (calls : List Read) (said : Said) → loads (command_on theory script schedule) calls (Ok said)
-    → AreRules said.rules × EachGood said.rules said.goals
-are_good of_rules of_goals theory script schedule calls said h =
-    let t = then_value (read_as kind.Theory (Named theory) (ReadsTheory [])) (after_theory (Named script) (third_of schedule)) calls said h in
-    let s = then_value (read_as kind.Script (Named script) (ReadsScript t.0.0 t.0.1)) (after_script (third_of schedule) t.0.0) t.2 said t.4 in
-    let i = then_value (input_part (third_of schedule) s.0.0 s.0.1) (all_said t.0.0 s.0.0) s.2 said s.4 in
-    let r = read_value kind.Theory (Named theory) (ReadsTheory []) t.1 t.0 t.3 in
-    let g = read_value kind.Script (Named script) (ReadsScript t.0.0 t.0.1) s.1 s.0 s.3 in
-    let are = of_rules [] t.0.1 r.0 t.0.0 r.1 in
-    let same : said ≡ said_by t.0.0 s.0.0 i.0 = given_value (said_by t.0.0 s.0.0 i.0) i.2 said i.4 in
-    subst (λ (x : Said). AreRules x.rules × EachGood x.rules x.goals) (sym same) (are, of_goals t.0.0 t.0.1 s.0.1 g.0 s.0.0 are g.1)
+are_good : TheoriesLaw → GoalsLaw → IsTheory no_laws → (c : Command) (calls : List Read) (said : Said) → loads c calls (Ok said) → IsTheory said.theory × EachGood said.theory said.goals
+are_good of_theories of_goals none c calls said h =
+    let t = then_value (read_as kind.Theory c.theory (ReadsTheory no_laws [])) (after_theory c.script c.task) calls said h in
+    let s = then_value (read_as kind.Script c.script (ReadsScript t.0.0 t.0.1)) (after_script c.task t.0.0) t.2 said t.4 in
+    let of : Plan × Names → Said = λ plan. record { names = plan.1; theory = t.0.0; goals = s.0.0.entries; plan = plan.0 } in
+    let p = then_value (plan_part c.task s.0.0 s.0.1) (λ plan. gives (of plan)) s.2 said s.4 in
+    let r = read_value kind.Theory c.theory (ReadsTheory no_laws []) t.1 t.0 t.3 in
+    let g = read_value kind.Script c.script (ReadsScript t.0.0 t.0.1) s.1 s.0 s.3 in
+    let is = of_theories no_laws t.0.0 [] t.0.1 r.0 none r.1 in
+    let same : said ≡ of p.0 = given_value (of p.0) p.2 said p.4 in
+    subst (λ (x : Said). IsTheory x.theory × EachGood x.theory x.goals) {x = of p.0} (sym same) (is, of_goals t.0.0 t.0.1 s.0.1 g.0 s.0.0 is g.1)
 
 -- ## Pieces
 
-module _ (law : StepLaw) (traces : EachTrace) (of_rules : RulesLaw) (of_goals : GoalsLaw) where
-  drill_says : (said : Said) (input : Input) (sections : List Section) → AreRules said.rules × EachGood said.rules said.goals → said.input ≡ input → input ≡ Events sections → (ps : List Piece) × Says Drill said ps
-  drill_says said input sections good e f =
-      let made =
-      some_pieces said.rules (λ (entry : Entry). IsDrilled said.names said.rules (events_of sections entry.name) entry)
-      (λ entry g. some_piece law traces said.names said.rules good.0 (Some sections) entry g) said.goals good.1 in
-      (made.0, subst (λ (x : Input). DrillSays x said made.0) (sym (e ∙ f)) made.1)
+module _ (law : StepLaw) (traces : EachTrace) (of_theories : TheoriesLaw) (of_goals : GoalsLaw) (none : IsTheory no_laws) where
+  says_pieces : (said : Said) → IsTheory said.theory × EachGood said.theory said.goals → (ps : List Piece) × Says said ps
+  says_pieces said good =
+      some_pieces said.theory (IsPiece said.plan said.names said.theory) (λ entry g. some_piece law said.names said.theory entry good.0 g traces said.plan) said.goals good.1
 
-  says_pieces : (schedule : Option (List ℕ)) (theory script : List ℕ) (calls : List Read) (said : Said) → loads (command_on theory script schedule) calls (Ok said) → (ps : List Piece) × Says (task_of schedule) said ps
-  says_pieces None theory script calls said h =
-      let good = are_good of_rules of_goals theory script None calls said h in
-      some_pieces said.rules (IsEvaluated said.names said.rules) (λ entry g. some_piece law traces said.names said.rules good.0 None entry g) said.goals good.1
-  says_pieces (Some schedule) theory script calls said h =
-      let has = has_events theory script schedule calls said h in
-      drill_says said said.input has.0 (are_good of_rules of_goals theory script (Some schedule) calls said h) refl has.1
+  whole_some : (c : Command) (calls : List Read) (out : Result Said Stop) → loads c calls out → IsSaid out → (s : Status) × (text : List ℕ) × Whole out s text
+  whole_some c calls (Ok said) h is =
+      let ps = says_pieces said (are_good of_theories of_goals none c calls said h) in (status_of ps.0, joined (map (λ (p : Piece). p.text) ps.0), (ps.0, ps.1, refl, refl))
+  whole_some c calls (Err (stop.Refused line)) h is = (status.Refused, line, (refl, refl))
+  whole_some c calls (Err (stop.Fault file)) h is = absurd is
+  whole_some c calls (Err stop.NoMemory) h is = absurd is
 
-  whole_some : (schedule : Option (List ℕ)) (theory script : List ℕ) (calls : List Read) (out : Result Said Stop) → loads (command_on theory script schedule) calls out → IsSaid out
-      → (s : Status) × (text : List ℕ) × Whole (task_of schedule) out s text
-  whole_some schedule theory script calls (Ok said) h is =
-      let ps = says_pieces schedule theory script calls said h in (status_of ps.0, joined (map (λ (p : Piece). p.text) ps.0), (ps.0, ps.1, refl, refl))
-  whole_some schedule theory script calls (Err (stop.Refused line)) h is = (status.Refused, line, (refl, refl))
-  whole_some schedule theory script calls (Err (stop.Fault file)) h is = absurd is
-  whole_some schedule theory script calls (Err stop.NoMemory) h is = absurd is
-
-  answer_on : (files : List ℕ → Option (List ℕ)) (theory script : List ℕ) (schedule : Option (List ℕ)) → AreTold files (command_on theory script schedule)
-      → (s : Status) × (text : List ℕ) × Answers files (command_on theory script schedule) s text
-  answer_on files theory script schedule told =
-      let g = loads_some files theory script schedule told in
-      let w = whole_some schedule theory script g.0 g.2 g.3 g.4 in
+  -- a command has an answer over files that are told
+  pub some_answer : SomeTheoryText → SomeScriptText → SomeScheduleText → (files : List ℕ → Option (List ℕ)) (c : Command) → AreTold files c → (s : Status) × (text : List ℕ) × Answers files c s text
+  some_answer theory script schedule files c told =
+      let g = loads_some files theory script schedule c told in
+      let w = whole_some c g.0 g.2 g.3 g.4 in
       (w.0, w.1, (g.0, g.1, g.2, g.3, w.2))
-
-  if_some : (b : Bool) (x c : Command) → (if b then Some x else None) ≡ Some c → x ≡ c
-  if_some true x c e = cc
-  if_some false x c e = absurd cc
-
-  no_command : (c : Command) → (let none : Option Command = None in none ≡ Some c) → ⊥
-  no_command c e = cc
-
-  -- a command of words has an answer over files that are told
-  pub some_answer : (files : List ℕ → Option (List ℕ)) (words : List (List ℕ)) (c : Command) → command_of words ≡ Some c → AreTold files c → (s : Status) × (text : List ℕ) × Answers files c s text
-  some_answer files [] c e told = absurd (no_command c e)
-  some_answer files (a ∷ []) c e told = absurd (no_command c e)
-  some_answer files (a ∷ b ∷ []) c e told = absurd (no_command c e)
-  some_answer files (word ∷ theory ∷ script ∷ []) c e told =
-      let is = if_some (bytes_eq word (codes "seq") && is_utf8 theory && is_utf8 script) (command_on theory script None) c e in
-      subst (λ (x : Command). (s : Status) × (text : List ℕ) × Answers files x s text) is (answer_on files theory script None (subst (AreTold files) (sym is) told))
-  some_answer files (word ∷ theory ∷ script ∷ schedule ∷ []) c e told =
-      let is = if_some (bytes_eq word (codes "drill") && is_utf8 theory && is_utf8 script && is_utf8 schedule) (command_on theory script (Some schedule)) c e in
-      subst (λ (x : Command). (s : Status) × (text : List ℕ) × Answers files x s text) is (answer_on files theory script (Some schedule) (subst (AreTold files) (sym is) told))
-  some_answer files (a ∷ b ∷ d ∷ f ∷ g ∷ more) c e told = absurd (no_command c e)

@@ -10,7 +10,7 @@ use Rattle.mp_run.specs.declared.status.Status.{Status}
 use Rattle.mp_run.specs.declared.status.Status.TheVariants as status
 use Rattle.mp_run.specs.declared.stop.Stop.{Stop}
 use Rattle.mp_run.specs.declared.stop.Stop.TheVariants as stop
-use Rattle.mp_run.specs.Commands.{From, Named, Made, Source, Task, Command, usage_line}
+use Rattle.mp_run.specs.Commands.{From, Named, Made, Task, Seq, Drill, Command, usage_line}
 use Rattle.mp_run.specs.Lines.{fault_line}
 use Rattle.mp_run.specs.Loads.{Said, loads}
 use Rattle.mp_run.specs.Sessions.{Says, status_of}
@@ -24,7 +24,7 @@ IsFrom (Some bytes) limit (Err err.TooLong) = limit < length bytes
 IsFrom (Some bytes) limit (Err other) = ⊥
 
 module _ (files : List ℕ → Option (List ℕ)) where
-  -- each read is answered from these files
+  -- each read of a file that is told is answered from its bytes
   abbrev pub AllFrom : List Read → Type 0
   AllFrom [] = ⊤
   AllFrom (r ∷ rs) = IsFrom (files r.name) r.limit r.answer × AllFrom rs
@@ -34,25 +34,25 @@ module _ (files : List ℕ → Option (List ℕ)) where
   IsTold (Named name) = IsSome (files name)
   IsTold (Made text) = ⊤
 
-  -- the bytes of what is read after the script are told, if anything is
-  abbrev pub ThirdIsTold : Option Source → Type 0
-  ThirdIsTold None = ⊤
-  ThirdIsTold (Some source) = IsTold source.from
+  -- the bytes of what a task reads are told
+  abbrev pub TaskIsTold : Task → Type 0
+  TaskIsTold Seq = ⊤
+  TaskIsTold (Drill schedule) = IsTold schedule
 
   -- the bytes of each text of the command are told
   abbrev pub AreTold : Command → Type 0
-  AreTold c = IsTold c.theory × IsTold c.script × ThirdIsTold c.third
+  AreTold c = IsTold c.theory × IsTold c.script × TaskIsTold c.task
 
 -- the whole of what a run puts, under its status: each piece; or the line that tells why it ended before its goals
-abbrev pub Whole : Task → Result Said Stop → Status → List ℕ → Type 0
-Whole task (Ok said) s text = (ps : List Piece) × Says task said ps × (s ≡ status_of ps) × (text ≡ joined (map (λ p. p.text) ps))
-Whole task (Err (stop.Refused line)) s text = (s ≡ status.Refused) × (text ≡ line)
-Whole task (Err (stop.Fault file)) s text = (s ≡ status.ReadFault) × (text ≡ fault_line file)
-Whole task (Err stop.NoMemory) s text = ⊥
+abbrev pub Whole : Result Said Stop → Status → List ℕ → Type 0
+Whole (Ok said) s text = (ps : List Piece) × Says said ps × (s ≡ status_of ps) × (text ≡ joined (map (λ p. p.text) ps))
+Whole (Err (stop.Refused line)) s text = (s ≡ status.Refused) × (text ≡ line)
+Whole (Err (stop.Fault file)) s text = (s ≡ status.ReadFault) × (text ≡ fault_line file)
+Whole (Err stop.NoMemory) s text = ⊥
 
 -- what a command answers over these files: a status, and a text
 abbrev pub Answers : (List ℕ → Option (List ℕ)) → Command → Status → List ℕ → Type 0
-Answers files c s text = (calls : List Read) × AllFrom files calls × (out : Result Said Stop) × loads c calls out × Whole c.task out s text
+Answers files c s text = (calls : List Read) × AllFrom files calls × (out : Result Said Stop) × loads c calls out × Whole out s text
 
 -- the run broke off: a put failed, or memory ran out
 abbrev pub BreaksOff : Status → Type 0
@@ -72,7 +72,7 @@ WholeUsage s text = (s ≡ status.Usage) × (text ≡ usage_line)
 -- what a session writes, by what it read: if the words are no command, the usage line; else what the texts make
 abbrev pub Writes : Option Command → List Read → Status → List ℕ → Type 0
 Writes None calls s text = WritesOf WholeUsage s text
-Writes (Some c) calls s text = (out : Result Said Stop) × loads c calls out × WritesOf (Whole c.task out) s text
+Writes (Some c) calls s text = (out : Result Said Stop) × loads c calls out × WritesOf (Whole out) s text
 
 -- a fault comes only if its count rose; another status, memory aside, only if none did
 abbrev pub RunCause : Status → (reads_before reads_now writes_before writes_now : ℕ) → Type 0

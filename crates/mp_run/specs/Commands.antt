@@ -2,42 +2,32 @@
 use Rattle.std.specs.Prelude.{ℕ, List, [], ◌∷◌, Some, None, ◌&&◌, codes, if◌then◌else◌}
 use Rattle.std.specs.declared.option.Option.{Option}
 use Rattle.std.specs.Str.{bytes_eq, is_utf8}
-use Rattle.mp_report.specs.declared.refusal.FileKind.{FileKind}
-use Rattle.mp_report.specs.declared.refusal.FileKind.TheVariants.{Schedule}
 
 -- where a text comes from: from the file of this name, or the run makes it by itself
 pub data From : Type 0 where
   Named : (name : List ℕ) → From
   Made : (text : List ℕ) → From
 
--- a text that is read after the script: what it is read as, and where it comes from
-pub record Source : Type 0 where
-  pub kind : FileKind
-  pub from : From
-
--- what a command does with what its texts say: `seq` evaluates each goal, `drill` runs each goal's schedule
+-- what a command does with the goals of its script, and what it reads for it: `seq` evaluates each goal; `drill` runs the events that
+-- a schedule has for each goal. A further command is a further task:
+--   prove, load: nothing is read for it;   keep: a schedule;   replay, expand: trees;   work: jobs;   resume: a checkpoint
 pub data Task : Type 0 where
   Seq : Task
-  Drill : Task
+  Drill : (schedule : From) → Task
 
--- a command: its theory, its script, what it reads after them, and what it does
+-- a command: its theory, its script, and its task
 pub record Command : Type 0 where
   pub theory : From
   pub script : From
-  pub third : Option Source
   pub task : Task
 
 -- `seq`
 abbrev pub seq_command : (theory script : List ℕ) → Command
-seq_command theory script = record { theory = Named theory; script = Named script; third = None; task = Seq }
-
--- the file of a schedule
-abbrev pub schedule_source : List ℕ → Source
-schedule_source schedule = record { kind = Schedule; from = Named schedule }
+seq_command theory script = record { theory = Named theory; script = Named script; task = Seq }
 
 -- `drill`
 abbrev pub drill_command : (theory script schedule : List ℕ) → Command
-drill_command theory script schedule = record { theory = Named theory; script = Named script; third = Some (schedule_source schedule); task = Drill }
+drill_command theory script schedule = record { theory = Named theory; script = Named script; task = Drill (Named schedule) }
 
 -- the command that the words give: its own word, and then its files, each a word in UTF-8
 abbrev pub command_of : List (List ℕ) → Option Command

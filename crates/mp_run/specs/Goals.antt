@@ -4,8 +4,10 @@ use Rattle.mp_logic.specs.declared.sym.Sym.{Sym}
 use Rattle.mp_logic.specs.declared.tree.Tree.{Tree}
 use Rattle.mp_logic.specs.Trees.{leaf_count_of}
 use Rattle.mp_term.specs.declared.sequent.Sequent.{Sequent}
-use Rattle.mp_theory.specs.declared.rule.Rule.{Rule}
-use Rattle.mp_refiner.specs.Steps.{step_of_rules}
+use Rattle.mp_theory.specs.Tables.{Laws}
+use Rattle.mp_theory.specs.declared.just.Just.{Just}
+use Rattle.mp_refiner.specs.Steps.{meaning_of}
+use Rattle.mp_strategy.specs.declared.problem.ProblemState.{ProblemState}
 use Rattle.mp_strategy.specs.declared.work.Work.{Work}
 use Rattle.mp_strategy.specs.declared.outcome.Outcome.{Outcome}
 use Rattle.mp_strategy.specs.declared.outcome.Outcome.TheVariants as outcome
@@ -36,38 +38,42 @@ is_closed_outcome (outcome.Failure f) = false
 abbrev pub verdict_of : Outcome Sequent → Verdict
 verdict_of o = if is_closed_outcome o then Closed else Open
 
+-- the problem of a goal: the laws of the theory, and the justifications and the strategies of the goal
+abbrev pub problem_of : Laws → Entry → ProblemState Laws Just
+problem_of theory entry = record { logic = theory; justs = entry.justs; tacs = entry.tacs }
+
 -- the work of a goal: its whole strategy, with its fuel
 abbrev pub goal_work : Entry → Work Sequent
 goal_work entry = work_of entry.tacs (record { 0 = 0 }) entry.fuel entry.goal
 
 -- what a work of the goal's strategies evaluates to, from left to right
-abbrev pub evaluate_in : List Rule → Entry → Work Sequent → Outcome Sequent
-evaluate_in rules entry = eval (step_of_rules rules) entry.justs entry.tacs
+abbrev pub evaluate_in : Laws → Entry → Work Sequent → Outcome Sequent
+evaluate_in theory entry = eval meaning_of (problem_of theory entry)
 
 -- the outcome of a goal
-abbrev pub goal_outcome : List Rule → Entry → Outcome Sequent
-goal_outcome rules entry = evaluate_in rules entry (goal_work entry)
+abbrev pub goal_outcome : Laws → Entry → Outcome Sequent
+goal_outcome theory entry = evaluate_in theory entry (goal_work entry)
 
 -- the piece of a goal with this outcome: a text that goes before, and the text of the outcome; its verdict is the outcome's. A tree
 -- proves the goal by steps of the rules, no path of it has more steps than the goal's fuel, and a goal that is closed is derivable.
-pub record IsBlock (names : Names) (rules : List Rule) (entry : Entry) (before : List ℕ) (o : Outcome Sequent) (p : Piece) : Type 0 where
-  pub valid : (t : Tree Sequent) → o ≡ outcome.Tree t → Proves rules entry.justs t entry.goal
+pub record IsBlock (names : Names) (theory : Laws) (entry : Entry) (before : List ℕ) (o : Outcome Sequent) (p : Piece) : Type 0 where
+  pub valid : (t : Tree Sequent) → o ≡ outcome.Tree t → Proves theory entry.justs t entry.goal
   pub low : (t : Tree Sequent) → o ≡ outcome.Tree t → tree_depth_of t ≤ entry.fuel
-  pub derivable : IsTrue (is_closed_outcome o) → IsDerivable rules entry.goal
-  pub text : p.text ≡ before ++ result_text names rules entry.name entry.justs o
+  pub derivable : IsTrue (is_closed_outcome o) → IsDerivable theory entry.goal
+  pub text : p.text ≡ before ++ result_text names theory entry.name entry.justs o
   pub verdict : p.verdict ≡ verdict_of o
 
 -- a goal's piece if it is evaluated from left to right
-abbrev pub IsEvaluated : Names → List Rule → Entry → Piece → Type 0
-IsEvaluated names rules entry p = IsBlock names rules entry [] (goal_outcome rules entry) p
+abbrev pub IsEvaluated : Names → Laws → Entry → Piece → Type 0
+IsEvaluated names theory entry p = IsBlock names theory entry [] (goal_outcome theory entry) p
 
 -- a goal's piece if these events are drilled: the replies to them and the outcome are the trace's, and the text of the replies goes before
-abbrev pub IsDrilled : Names → List Rule → List Event → Entry → Piece → Type 0
-IsDrilled names rules events entry p =
+abbrev pub IsDrilled : Names → Laws → List Event → Entry → Piece → Type 0
+IsDrilled names theory events entry p =
     (replies : List Reply)
     × (o : Outcome Sequent)
-    × IsTrace (evaluate_in rules entry) (goal_work entry) events replies o
-    × IsBlock names rules entry (trace_text names entry.name events replies) o p
+    × IsTrace (evaluate_in theory entry) (goal_work entry) events replies o
+    × IsBlock names theory entry (trace_text names entry.name events replies) o p
 
 -- the events of each goal are in their ranges
 abbrev pub GoalsInRange : List Section → Type 0

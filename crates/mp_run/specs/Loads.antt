@@ -1,52 +1,46 @@
 -- What the texts of a command say, each read in its turn.
 use Rattle.std.specs.Prelude.{List, [], map}
-use Rattle.std.specs.declared.option.Option.{Option}
-use Rattle.std.specs.declared.option.Option.TheVariants.{Some, None}
-use Rattle.mp_theory.specs.declared.rule.Rule.{Rule}
+use Rattle.mp_logic.specs.declared.sym.Sym.{Sym}
+use Rattle.mp_theory.specs.Tables.{Laws, no_laws}
 use Rattle.mp_theorytext.specs.Reading.{ReadsTheory}
 use Rattle.mp_scripttext.specs.declared.script.Entry.{Entry}
 use Rattle.mp_scripttext.specs.declared.script.Script.{Script as Goals}
 use Rattle.mp_scripttext.specs.Reading.{ReadsScript}
-use Rattle.mp_drill.specs.declared.schedule.Section.{Section}
+use Rattle.mp_drill.specs.declared.schedule.Event.{Event}
 use Rattle.mp_drill.specs.ScheduleReading.{ReadsSchedule}
-use Rattle.mp_report.specs.declared.refusal.FileKind.{FileKind}
+use Rattle.mp_drill.specs.Sections.{events_of}
 use Rattle.mp_report.specs.declared.refusal.FileKind.TheVariants.{Theory, Script, Schedule}
-use Rattle.mp_run.specs.Commands.{From, Source, Command}
+use Rattle.mp_run.specs.Commands.{From, Task, Seq, Drill, Command}
 use Rattle.mp_run.specs.Parts.{Names, Part, gives, and_then, read_as}
 
--- what a command reads after its script
-pub data Input : Type 0 where
-  Nothing : Input
-  Events : (sections : List Section) → Input
+-- what is done with the goals of a script, with what was read for it: each goal is evaluated; or its events are drilled
+pub data Plan : Type 0 where
+  Evaluated : Plan
+  Drilled : (events : Sym → List Event) → Plan
 
--- what the texts of a command say: the names that are known, the rules, the goals, and what is read after them
+-- what the texts of a command say: the names that are known, the theory, the goals, and what is done with them
 pub record Said : Type 0 where
   pub names : Names
-  pub rules : List Rule
+  pub theory : Laws
   pub goals : List Entry
-  pub input : Input
+  pub plan : Plan
 
--- the text after the script, by what it is read as: a schedule is for the goals of the script. No command has another one.
-abbrev pub third_part : FileKind → From → Goals → Names → Part (Input × Names)
-third_part Schedule from goals names =
-    and_then (read_as Schedule from (ReadsSchedule (map (λ e. e.name) goals.entries) names)) (λ said. gives (Events said.0, said.1))
-third_part other from goals names = λ calls out. ⊥
-
--- what is read after the script, if anything is
-abbrev pub input_part : Option Source → Goals → Names → Part (Input × Names)
-input_part None goals names = gives (Nothing, names)
-input_part (Some source) goals names = third_part source.kind source.from goals names
+-- the plan of a task for the goals of a script: a schedule is read for these goals, and each has the events of its section
+abbrev pub plan_part : Task → Goals → Names → Part (Plan × Names)
+plan_part Seq goals names = gives (Evaluated, names)
+plan_part (Drill schedule) goals names =
+    and_then (read_as Schedule schedule (ReadsSchedule (map (λ e. e.name) goals.entries) names)) (λ said. gives (Drilled (events_of said.0), said.1))
 
 -- all that is said, by what is read after the theory and the script
-abbrev pub after_script : Option Source → List Rule → Goals × Names → Part Said
-after_script third rules script =
-    and_then (input_part third script.0 script.1) (λ input. gives (record { names = input.1; rules = rules; goals = script.0.entries; input = input.0 }))
+abbrev pub after_script : Task → Laws → Goals × Names → Part Said
+after_script task theory script =
+    and_then (plan_part task script.0 script.1) (λ plan. gives (record { names = plan.1; theory = theory; goals = script.0.entries; plan = plan.0 }))
 
 -- all that is said, by what is read after the theory
-abbrev pub after_theory : From → Option Source → List Rule × Names → Part Said
-after_theory script third theory = and_then (read_as Script script (ReadsScript theory.0 theory.1)) (after_script third theory.0)
+abbrev pub after_theory : From → Task → Laws × Names → Part Said
+after_theory script task theory = and_then (read_as Script script (ReadsScript theory.0 theory.1)) (after_script task theory.0)
 
--- the texts of a command are read, each in its turn: the theory, the script in it, and what is read after them; the first one that
--- can't be read or is refused ends the run
+-- the texts of a command are read, each in its turn: the theory, the script in it, and what its task reads; the first one that can't be
+-- read or is refused ends the run
 abbrev pub loads : Command → Part Said
-loads c = and_then (read_as Theory c.theory (ReadsTheory [])) (after_theory c.script c.third)
+loads c = and_then (read_as Theory c.theory (ReadsTheory no_laws [])) (after_theory c.script c.task)

@@ -1,6 +1,6 @@
 -- The parts of a run that read files: what each reads, and what it gives.
 use Rattle.std.specs.Prelude.{◌≡◌, ℕ, ◌⊎◌, List, [], ◌∷◌, ◌++◌, Result, Ok, Err, ⊤}
-use Rattle.mp_ports.specs.Calls.{Read}
+use Rattle.mp_ports.specs.Calls.{Read, Chain}
 use Rattle.mp_ports.specs.declared.ports.ReadErr.{ReadErr}
 use Rattle.mp_ports.specs.declared.ports.ReadErr.TheVariants as err
 use Rattle.mp_words.specs.declared.fail.TextErr.{TextErr}
@@ -24,6 +24,10 @@ Reading V = List ℕ → Result V TextFail → Names → Type 0
 -- a part of a run: the calls of `read` that it makes, in order, and its value or what ends the run
 abbrev pub Part : Type 0 → Type 1
 Part V = List Read → Result V Stop → Type 0
+
+-- by some calls of the part the shelf comes from the one state to the other, and the part gives this
+abbrev pub Makes : {S V : Type 0} → (S → S → Read → Type 0) → Part V → S → S → Result V Stop → Type 0
+Makes reads part old new out = (calls : List Read) × Chain reads old new calls × part calls out
 
 -- a value without a read, unless memory runs out
 abbrev pub gives : {V : Type 0} → V → Part V

@@ -2,7 +2,7 @@
 use Rattle.std.specs.Prelude.{◌≡◌, ℕ, ◌⊎◌, List, [], ◌∷◌, map, Bool, true, false, Option, Some, None, Result, Ok, Err, ⊤}
 use Rattle.mp_ports.specs.Calls.{Read, Put}
 use Rattle.mp_ports.specs.declared.ports.PutFailed.{PutFailed}
-use Rattle.mp_drill.specs.Sections.{events_of}
+use Rattle.mp_scripttext.specs.declared.script.Entry.{Entry}
 use Rattle.mp_run.specs.declared.piece.Piece.{Piece}
 use Rattle.mp_run.specs.declared.piece.Verdict.{Verdict}
 use Rattle.mp_run.specs.declared.piece.Verdict.TheVariants.{Closed, Open, Ends}
@@ -10,10 +10,12 @@ use Rattle.mp_run.specs.declared.status.Status.{Status}
 use Rattle.mp_run.specs.declared.status.Status.TheVariants as status
 use Rattle.mp_run.specs.declared.stop.Stop.{Stop}
 use Rattle.mp_run.specs.declared.stop.Stop.TheVariants as stop
-use Rattle.mp_run.specs.Commands.{Command, Task, Seq, Drill, usage_line}
+use Rattle.mp_theory.specs.Tables.{Laws}
+use Rattle.mp_run.specs.Commands.{Command, usage_line}
 use Rattle.mp_run.specs.Goals.{IsEvaluated, IsDrilled}
 use Rattle.mp_run.specs.Lines.{fault_line}
-use Rattle.mp_run.specs.Loads.{Input, Nothing, Events, Said, loads}
+use Rattle.mp_run.specs.Loads.{Plan, Evaluated, Drilled, Said, loads}
+use Rattle.mp_run.specs.Parts.{Names}
 
 -- ## Pieces
 
@@ -57,18 +59,17 @@ status_after (p ∷ ps) before = status_on p.verdict before (status_after ps)
 abbrev pub status_of : List Piece → Status
 status_of ps = status_after ps status.AllClosed
 
--- the events of each goal are drilled
-abbrev pub DrillSays : Input → Said → List Piece → Type 0
-DrillSays Nothing said ps = ⊥
-DrillSays (Events sections) said ps = Pieces (λ entry. IsDrilled said.names said.rules (events_of sections entry.name) entry) said.goals ps
+-- a goal's piece, by what is done with the goals. A further command is a further row:
+--   prove: as seq, the outcome one that the strategy gives;   keep: the goal's node after its events, closed
+--   replay, expand: the goal's tree with its verdict, a bad one ends the run;   resume: the outcome that the goal's node reaches
+abbrev pub IsPiece : Plan → Names → Laws → Entry → Piece → Type 0
+IsPiece Evaluated names theory entry p = IsEvaluated names theory entry p
+IsPiece (Drilled events) names theory entry p = IsDrilled names theory (events entry.name) entry p
 
--- the pieces that a command puts, by its task and by what its texts say. A further command is a further row:
---   prove: as seq, each outcome one that the strategy gives;   keep: each goal's node after its events, closed
---   replay, expand: each tree with its verdict, a bad one ends the run;   work: a frame for each job
---   resume: the outcome that each goal's node reaches;   load: one line, over texts that the run makes
-abbrev pub Says : Task → Said → List Piece → Type 0
-Says Seq said ps = Pieces (IsEvaluated said.names said.rules) said.goals ps
-Says Drill said ps = DrillSays said.input said ps
+-- the pieces that are put, by what the texts say: one for each goal. A command that puts others is a further row, by the plan:
+--   work: a frame for each job;   load: one line for all goals
+abbrev pub Says : Said → List Piece → Type 0
+Says said ps = Pieces (IsPiece said.plan said.names said.theory) said.goals ps
 
 -- ## Puts
 
@@ -102,13 +103,13 @@ StopPuts (stop.Fault file) calls s = PutsLine (fault_line file) status.ReadFault
 StopPuts stop.NoMemory calls s = (calls ≡ []) × (s ≡ status.NoMemory)
 
 -- what is put after the texts were read, or after the run was ended before its goals
-abbrev pub Ended : Task → Result Said Stop → List Put → Status → Type 0
-Ended task (Ok said) calls s = (ps : List Piece) × Says task said ps × Puts (map (λ p. p.text) ps) (status_of ps) calls s
-Ended task (Err end) calls s = StopPuts end calls s
+abbrev pub Ended : Result Said Stop → List Put → Status → Type 0
+Ended (Ok said) calls s = (ps : List Piece) × Says said ps × Puts (map (λ p. p.text) ps) (status_of ps) calls s
+Ended (Err end) calls s = StopPuts end calls s
 
 -- a command's run: the reads and puts that it made, in order, and the status that it ended with
 abbrev pub CommandSession : Command → List Read → List Put → Status → Type 0
-CommandSession c reads puts s = (out : Result Said Stop) × loads c reads out × Ended c.task out puts s
+CommandSession c reads puts s = (out : Result Said Stop) × loads c reads out × Ended out puts s
 
 -- a run: if the words are no command, nothing is read and the usage line is put
 abbrev pub Session : Option Command → List Read → List Put → Status → Type 0

@@ -1,6 +1,6 @@
 ghost use Rattle.std.specs.Prelude.{◌≡◌, IfOk};
 ghost use Rattle.mp_drill.specs.Sections.{events_of};
-ghost use Rattle.mp_theory.specs.Tables.{AreRules};
+ghost use Rattle.mp_theory.specs.Tables.{IsTheory};
 ghost use Rattle.mp_scripttext.specs.Entries.{IsGoodEntry};
 ghost use Rattle.mp_run.specs.Goals.{GoalsInRange, IsEvaluated, IsDrilled};
 ghost use Rattle.mp_run.specs.Goals.{is_closed_outcome as is_closed_of, verdict_of as verdict_of_outcome};
@@ -8,14 +8,13 @@ ghost use Rattle.mp_run.specs.Goals.{is_closed_outcome as is_closed_of, verdict_
 use crate::piece::{Piece, Verdict};
 use mp_drill::{Sections, drill};
 use mp_eval::evaluate;
-use mp_logic::{List as Items, NoMemory, leaf_count};
+use mp_logic::{List, NoMemory, leaf_count};
 use mp_names::Names;
 use mp_refiner::{Refiner, step_law};
-use mp_report::{result_text, trace_text};
+use mp_report::{push_result, push_trace, result_text};
 use mp_scripttext::Entry;
 use mp_strategy::{Outcome, Problem, TacId, Work};
 use mp_term::Sequent;
-use mp_termtext::push_bytes;
 use mp_theory::Theory;
 use std::alloc::Global;
 
@@ -47,7 +46,7 @@ pub fn seq_block(
     theory: &Theory,
     entry: Entry,
 ) -> Result<Piece, NoMemory>
-    requires rules { AreRules theory.now }
+    requires theory { IsTheory theory.now }
     requires good { IsGoodEntry theory.now entry }
     ensures { IfOk result (IsEvaluated names.now theory.now entry) }
 {
@@ -79,7 +78,7 @@ pub fn drill_block(
     sections: &Sections,
     entry: Entry,
 ) -> Result<Piece, NoMemory>
-    requires rules { AreRules theory.now }
+    requires theory { IsTheory theory.now }
     requires good { IsGoodEntry theory.now entry }
     requires range { GoalsInRange sections.now }
     ensures { IfOk result (IsDrilled names.now theory.now (events_of sections.now entry.name) entry) }
@@ -98,12 +97,19 @@ pub fn drill_block(
     let work = Work::of(&problem, TacId(0), fuel, goal);
     let events = sections.events(name);
     let (replies, outcome) = drill(alloc, &problem, work, events)?;
-    let trace = trace_text(alloc, names, name, events, &replies)?;
-    let result = result_text(alloc, names, theory, name, &problem.justs, &outcome)?;
-    let mut text = trace.into_vec();
-    push_bytes(&mut text, result.as_slice())?;
+    let mut text = Vec::new(alloc);
+    push_trace(&mut text, names, name, events, &replies)?;
+    push_result(
+        alloc,
+        &mut text,
+        names,
+        theory,
+        name,
+        &problem.justs,
+        &outcome,
+    )?;
     Ok(Piece {
-        text: Items::from_vec(text),
+        text: List::from_vec(text),
         verdict: verdict_of(&outcome),
     })
 }

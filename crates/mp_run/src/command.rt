@@ -7,12 +7,21 @@ ghost use Rattle.mp_run.specs.Loaded.{command_seen};
 use mp_logic::Text;
 use std::str;
 
-/// A command, by the words that name its files: `seq` has no schedule, and `drill` has one.
+/// What a command does with the goals of its script, with the word that names what it reads for it.
+#[derive(Clone, Copy)]
+pub enum Task<'a> {
+    /// Each goal is evaluated.
+    Seq,
+    /// The events that the schedule of this name has for each goal are drilled.
+    Drill(&'a Text),
+}
+
+/// A command, with the words that name its files.
 #[derive(Clone, Copy)]
 pub struct Command<'a> {
     pub theory: &'a Text,
     pub script: &'a Text,
-    pub schedule: Option<&'a Text>,
+    pub task: Task<'a>,
 }
 
 /// The command that the words give; None where they are none of the commands'.
@@ -25,7 +34,7 @@ pub fn command_of(words: &[Text]) -> Option<Command<'_>>
                 Some(Command {
                     theory,
                     script,
-                    schedule: None,
+                    task: Task::Seq,
                 })
             } else {
                 None
@@ -40,7 +49,7 @@ pub fn command_of(words: &[Text]) -> Option<Command<'_>>
                 Some(Command {
                     theory,
                     script,
-                    schedule: Some(schedule),
+                    task: Task::Drill(schedule),
                 })
             } else {
                 None

@@ -1,21 +1,21 @@
 ghost use Rattle.std.specs.Prelude.{◌≡◌, List, IfOk};
 ghost use Rattle.mp_ports.specs.Calls.{Put, Chain};
-ghost use Rattle.mp_run.specs.Loaded.{IsPiece, ScheduleInRange, PutsPieces};
+ghost use Rattle.mp_run.specs.Loaded.{IsReady, PlanInRange, PutsPieces, plan_seen, said_of};
+ghost use Rattle.mp_run.specs.Sessions.{Ended, IsPiece};
 ghost use Rattle.mp_run.specs.Sessions.{ends as ends_of, next_status as next_status_of};
-ghost use Rattle.mp_theory.specs.Tables.{AreRules};
+ghost use Rattle.mp_theory.specs.Tables.{IsTheory};
 ghost use Rattle.mp_scripttext.specs.Entries.{IsGoodEntry, EachGood};
 
 use crate::block::{drill_block, seq_block};
-use crate::loading::Loaded;
+use crate::loading::{Loaded, Plan};
 use crate::piece::{Piece, Verdict};
 use crate::status::Status;
-use mp_drill::{Sections, some_trace};
+use mp_drill::some_trace;
 use mp_logic::{List as Items, NoMemory, Waiting};
 use mp_names::Names;
 use mp_ports::Sink;
-use mp_refiner::step_law;
+use mp_refiner::{Refiner, step_law};
 use mp_scripttext::Entry;
-use mp_term::Sequent;
 use mp_theory::Theory;
 use std::alloc::Global;
 
@@ -24,17 +24,17 @@ fn piece_of(
     alloc: Global,
     names: &Names,
     theory: &Theory,
-    schedule: &Option<Sections>,
+    plan: &Plan,
     entry: Entry,
 ) -> Result<Piece, NoMemory>
-    requires rules { AreRules theory.now }
+    requires theory { IsTheory theory.now }
     requires good { IsGoodEntry theory.now entry }
-    requires range { ScheduleInRange schedule.now }
-    ensures { IfOk result (IsPiece names.now theory.now schedule.now entry) }
+    requires range { PlanInRange plan.now }
+    ensures { IfOk result (IsPiece (plan_seen plan.now) names.now theory.now entry) }
 {
-    match schedule {
-        None => seq_block(alloc, names, theory, entry),
-        Some(sections) => drill_block(alloc, names, theory, sections, entry),
+    match plan {
+        Plan::Evaluated => seq_block(alloc, names, theory, entry),
+        Plan::Drilled(sections) => drill_block(alloc, names, theory, sections, entry),
     }
 }
 
@@ -64,22 +64,22 @@ fn put_pieces<K: Sink>(
     alloc: Global,
     names: &Names,
     theory: &Theory,
-    schedule: &Option<Sections>,
+    plan: &Plan,
     entries: Items<Entry>,
     out: &mut K,
 ) -> Status
-    requires rules { AreRules theory.now }
+    requires theory { IsTheory theory.now }
     requires goals { EachGood theory.now entries }
-    requires range { ScheduleInRange schedule.now }
-    ensures { (calls : List Put) × Chain K.puts out.old out.new calls × PutsPieces (IsPiece names.now theory.now schedule.now) entries calls result }
+    requires range { PlanInRange plan.now }
+    ensures { (calls : List Put) × Chain K.puts out.old out.new calls × PutsPieces (IsPiece (plan_seen plan.now) names.now theory.now) entries calls result }
 {
     // Each goal has a piece, also one whose piece is never made.
-    some_trace::<Sequent>();
+    some_trace::<Refiner>();
     step_law();
     let mut status = Status::AllClosed;
     let mut waiting = Waiting::new(entries);
     while let Some(entry) = waiting.next() {
-        let piece = match piece_of(alloc, names, theory, schedule, entry) {
+        let piece = match piece_of(alloc, names, theory, plan, entry) {
             Ok(piece) => piece,
             Err(_) => return Status::NoMemory,
         };
@@ -97,16 +97,14 @@ fn put_pieces<K: Sink>(
 
 /// Puts the piece of each goal of what was loaded.
 pub fn put_loaded<K: Sink>(alloc: Global, loaded: Loaded, out: &mut K) -> Status
-    requires rules { AreRules loaded.theory }
-    requires goals { EachGood loaded.theory loaded.script.entries }
-    requires range { ScheduleInRange loaded.schedule }
-    ensures { (calls : List Put) × Chain K.puts out.old out.new calls × PutsPieces (IsPiece loaded.names loaded.theory loaded.schedule) loaded.script.entries calls result }
+    requires { IsReady loaded }
+    ensures { (calls : List Put) × Chain K.puts out.old out.new calls × Ended (Ok (said_of loaded)) calls result }
 {
     let Loaded {
         names,
         theory,
         script,
-        schedule,
+        plan,
     } = loaded;
-    put_pieces(alloc, &names, &theory, &schedule, script.entries, out)
+    put_pieces(alloc, &names, &theory, &plan, script.entries, out)
 }

@@ -1,19 +1,31 @@
-ghost use Rattle.std.specs.Prelude.{◌≡◌, ◌≢◌, ◌⊎◌, ℕ, List, Option, Some, None};
+ghost use Rattle.std.specs.Prelude.{◌≡◌, ◌⊎◌, ℕ, List, Option, None};
 ghost use Rattle.std.specs.Io.KnownBytes.{Appends};
 ghost use Rattle.mp_ports.specs.Calls.{Read, Put, Chain};
 ghost use Rattle.mp_ports.specs.Causes.{Quiet};
+ghost use Rattle.mp_theory.specs.Tables.{Laws};
+ghost use Rattle.mp_strategy.specs.declared.outcome.Outcome.{Outcome};
+ghost use Rattle.mp_drill.specs.declared.schedule.Event.{Event};
+ghost use Rattle.mp_drill.specs.declared.schedule.Reply.{Reply};
+ghost use Rattle.mp_drill.specs.Trace.{IsTrace};
+ghost use Rattle.mp_scripttext.specs.declared.script.Entry.{Entry as Goal};
 ghost use Rattle.mp_run.specs.declared.status.Status.{Status as Ending};
 ghost use Rattle.mp_run.specs.Answers.{AreTold, Answers, Writes, RunCause, Keeps};
-ghost use Rattle.mp_run.specs.Commands.{Command, command_of};
+ghost use Rattle.mp_run.specs.Commands.{Command};
+ghost use Rattle.mp_run.specs.Goals.{evaluate_in, goal_outcome, goal_work};
 ghost use Rattle.mp_run.specs.Sessions.{Session, CommandSession};
 
 use crate::status::Status;
-use mp_drill::{one_schedule_text, one_trace, some_trace};
+use mp_drill::{one_schedule_text, one_trace, some_schedule_text, some_trace, traces_evaluate};
 use mp_ports::{Shelf, Sink};
-use mp_refiner::step_law;
-use mp_scripttext::{one_text as one_script_text, read_goals_are_good};
+use mp_refiner::{Refiner, step_law};
+use mp_scripttext::{
+    one_text as one_script_text, read_goals_are_good, some_text as some_script_text,
+};
 use mp_term::Sequent;
-use mp_theorytext::{one_text as one_theory_text, read_rules_are_rules};
+use mp_theory::theory_laws;
+use mp_theorytext::{
+    one_text as one_theory_text, read_theories_are_theories, some_text as some_theory_text,
+};
 
 /// What follows of the calls of a run, whatever the shelf and the sink tell: what is written under each status; that a fault comes
 /// only where its count rose, and another status, memory aside, only where none did; that what the shelf holds stays; that
@@ -44,14 +56,26 @@ pub fn one_answer()
     one_trace::<Sequent>();
 }
 
-/// Over files whose bytes are told each command that words give has an answer: each text has a value or a fault, and each schedule
-/// of a goal has a trace.
+/// Over files whose bytes are told each command has an answer: each text has a value or a fault, and each schedule of a goal has a
+/// trace.
 pub fn some_answer()
-    ensures { (files : List ℕ → Option (List ℕ)) (words : List (List ℕ)) (command : Command) → command_of words ≡ Some command → AreTold files command
-        → (s : Ending) × (text : List ℕ) × Answers files command s text }
+    ensures { (files : List ℕ → Option (List ℕ)) (command : Command) → AreTold files command → (s : Ending) × (text : List ℕ) × Answers files command s text }
 {
-    some_trace::<Sequent>();
+    some_theory_text();
+    some_script_text();
+    some_schedule_text();
+    some_trace::<Refiner>();
     step_law();
-    read_rules_are_rules();
+    theory_laws();
+    read_theories_are_theories();
     read_goals_are_good();
+}
+
+/// What the events of a drill claim, lose, reissue or report late changes nothing of the outcome: it is the one that evaluation from
+/// left to right gives. The job of a goal isn't split so far.
+pub fn drills_evaluate()
+    ensures { (theory : Laws) (goal : Goal) (events : List Event) (replies : List Reply) (outcome : Outcome Sequent) → IsTrace (evaluate_in theory goal) (goal_work goal) events replies outcome
+        → outcome ≡ goal_outcome theory goal }
+{
+    traces_evaluate::<Sequent>();
 }

@@ -15,7 +15,7 @@ mod status;
 mod stop;
 mod telling;
 
-pub use laws::{one_answer, runs_answer, some_answer};
+pub use laws::{drills_evaluate, one_answer, runs_answer, some_answer};
 pub use limits::{LONGEST_FILE, LONGEST_TREES};
 pub use run::run_here;
 pub use status::Status;

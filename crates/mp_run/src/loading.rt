@@ -1,22 +1,28 @@
-ghost use Rattle.std.specs.Prelude.{◌≡◌, ◌≤◌, ◌*◌, List, length, map, IfOk};
-ghost use Rattle.mp_ports.specs.Calls.{Read, Chain};
-ghost use Rattle.mp_theory.specs.Tables.{AreRules};
-ghost use Rattle.mp_scripttext.specs.Entries.{EachGood};
+ghost use Rattle.std.specs.Prelude.{◌≡◌, ◌≤◌, ◌+◌, ◌-◌, ◌<◌, ◌^◌, List, length, map, IfOk};
 ghost use Rattle.mp_run.specs.declared.limits.TheConstants.{LONGEST_FILE};
-ghost use Rattle.mp_run.specs.Commands.{Named};
-ghost use Rattle.mp_run.specs.Loaded.{LoadsSo, command_seen, word_seen, task_of, third_of};
-ghost use Rattle.mp_run.specs.Loads.{loads, after_script, after_theory};
+ghost use Rattle.mp_run.specs.Loaded.{IsReady, PlanInRange, command_seen, plan_seen, said_of, seen_by, task_seen, with_names};
+ghost use Rattle.mp_run.specs.Loads.{loads, plan_part};
+ghost use Rattle.mp_run.specs.Parts.{Makes};
 
-use crate::command::Command;
+use crate::command::{Command, Task};
 use crate::reading::{schedule_of, script_of, theory_of};
 use crate::stop::Stop;
 use mp_drill::Sections;
-use mp_logic::{List as Items, NoMemory, Sym, Text};
+use mp_logic::{List as Items, NoMemory, Sym};
 use mp_names::Names;
 use mp_ports::Shelf;
 use mp_scripttext::Script;
 use mp_theory::Theory;
 use std::alloc::Global;
+
+/// What is done with the goals, with what was read for it.
+#[derive(Drop)]
+pub enum Plan {
+    /// Each goal is evaluated.
+    Evaluated,
+    /// The events of each goal are drilled.
+    Drilled(Sections),
+}
 
 /// What the files of a command say.
 #[derive(Drop)]
@@ -24,8 +30,7 @@ pub struct Loaded {
     pub names: Names,
     pub theory: Theory,
     pub script: Script,
-    /// The events of the goals, where a schedule is drilled.
-    pub schedule: Option<Sections>,
+    pub plan: Plan,
 }
 
 /// The names of the goals, in order.
@@ -41,80 +46,45 @@ fn goals_of(alloc: Global, script: &Script) -> Result<Items<Sym>, NoMemory>
     Ok(goals)
 }
 
-/// Reads the schedule, if there is one, after the script.
-fn with_schedule<H: Shelf>(
+/// The plan of the task for the goals of the script. A schedule is read for it.
+#[tactic(auto, using(crate::proofs::Plans::kept_range))]
+fn plan_of<H: Shelf>(
     alloc: Global,
     shelf: &mut H,
-    names: Names,
-    theory: Theory,
-    script: Script,
-    schedule: Option<&Text>,
-) -> Result<Loaded, Stop>
-    requires room { length names ≤ 2 * LONGEST_FILE }
-    requires rules { AreRules theory }
-    requires good { EachGood theory script.entries }
-    ensures { (calls : List Read) × Chain H.reads shelf.old shelf.new calls × LoadsSo (task_of (word_seen schedule.entry)) (after_script (third_of (word_seen schedule.entry)) theory (script, names)) calls result }
+    names: &mut Names,
+    script: &Script,
+    task: Task<'_>,
+) -> Result<Plan, Stop>
+    requires room { length names.old + LONGEST_FILE < 2 ^ 32 - 1 }
+    ensures range { IfOk result PlanInRange }
+    ensures calls { Makes H.reads (plan_part (task_seen task.entry) script.now names.old) shelf.old shelf.new (with_names names.new (seen_by plan_seen result)) }
 {
-    let Some(file) = schedule else {
-        return Ok(Loaded {
-            names,
-            theory,
-            script,
-            schedule: None,
-        });
+    let Task::Drill(schedule) = task else {
+        return Ok(Plan::Evaluated);
     };
-    let Ok(goals) = goals_of(alloc, &script) else {
+    let Ok(goals) = goals_of(alloc, script) else {
         return Err(Stop::NoMemory);
     };
-    let mut names = names;
-    match schedule_of(alloc, shelf, &mut names, &goals, file) {
-        Ok(sections) => match Sections::new(alloc, sections) {
-            Ok(sections) => Ok(Loaded {
-                names,
-                theory,
-                script,
-                schedule: Some(sections),
-            }),
-            Err(NoMemory) => Err(Stop::NoMemory),
-        },
-        Err(stop) => Err(stop),
-    }
-}
-
-/// Reads the script after the theory, and then the schedule, if there is one.
-fn with_script<H: Shelf>(
-    alloc: Global,
-    shelf: &mut H,
-    names: Names,
-    theory: Theory,
-    script: &Text,
-    schedule: Option<&Text>,
-) -> Result<Loaded, Stop>
-    requires room { length names ≤ LONGEST_FILE }
-    requires rules { AreRules theory }
-    ensures { (calls : List Read) × Chain H.reads shelf.old shelf.new calls × LoadsSo (task_of (word_seen schedule.entry)) (after_theory (Named script.now) (third_of (word_seen schedule.entry)) (theory, names)) calls result }
-{
-    let mut names = names;
-    match script_of(alloc, shelf, &mut names, &theory, script) {
-        Ok(script) => with_schedule(alloc, shelf, names, theory, script, schedule),
-        Err(stop) => Err(stop),
+    let sections = schedule_of(alloc, shelf, names, &goals, schedule)?;
+    match Sections::new(alloc, sections) {
+        Ok(sections) => Ok(Plan::Drilled(sections)),
+        Err(NoMemory) => Err(Stop::NoMemory),
     }
 }
 
 /// Reads the files of the command, in the order of its words.
 pub fn load<H: Shelf>(alloc: Global, shelf: &mut H, command: Command<'_>) -> Result<Loaded, Stop>
-    ensures { (calls : List Read) × Chain H.reads shelf.old shelf.new calls × LoadsSo (task_of (word_seen command.entry.schedule)) (loads (command_seen command.entry)) calls result }
+    ensures ready { IfOk result IsReady }
+    ensures calls { Makes H.reads (loads (command_seen command.entry)) shelf.old shelf.new (seen_by said_of result) }
 {
     let mut names = Names::new(alloc);
-    match theory_of(alloc, shelf, &mut names, command.theory) {
-        Ok(theory) => with_script(
-            alloc,
-            shelf,
-            names,
-            theory,
-            command.script,
-            command.schedule,
-        ),
-        Err(stop) => Err(stop),
-    }
+    let theory = theory_of(alloc, shelf, &mut names, command.theory)?;
+    let script = script_of(alloc, shelf, &mut names, &theory, command.script)?;
+    let plan = plan_of(alloc, shelf, &mut names, &script, command.task)?;
+    Ok(Loaded {
+        names,
+        theory,
+        script,
+        plan,
+    })
 }

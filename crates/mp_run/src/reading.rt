@@ -1,6 +1,5 @@
 ghost use Rattle.std.specs.Prelude.{◌≡◌, ◌≤◌, ◌+◌, ◌-◌, ◌<◌, ◌^◌, ℕ, List, length, IfOk};
-ghost use Rattle.mp_ports.specs.Calls.{Read, Chain};
-ghost use Rattle.mp_theory.specs.Tables.{AreRules};
+ghost use Rattle.mp_theory.specs.Tables.{IsTheory, no_laws};
 ghost use Rattle.mp_theorytext.specs.Reading.{ReadsTheory};
 ghost use Rattle.mp_scripttext.specs.Reading.{ReadsScript};
 ghost use Rattle.mp_drill.specs.ScheduleReading.{ReadsSchedule};
@@ -10,7 +9,7 @@ ghost use Rattle.mp_run.specs.declared.limits.TheConstants.{LONGEST_FILE};
 ghost use Rattle.mp_run.specs.Commands.{Named};
 ghost use Rattle.mp_run.specs.Lines.{limit_of as limit_of_kind};
 ghost use Rattle.mp_run.specs.Loaded.{StopsRead, with_names};
-ghost use Rattle.mp_run.specs.Parts.{read_as, taken_from};
+ghost use Rattle.mp_run.specs.Parts.{Makes, read_as, taken_from};
 
 use crate::lines::{limit_of, refused, too_long};
 use crate::stop::Stop;
@@ -20,8 +19,8 @@ use mp_names::Names;
 use mp_ports::{ReadErr, Shelf};
 use mp_report::FileKind;
 use mp_scripttext::{Script, read_script};
-use mp_theory::Theory;
-use mp_theorytext::{read_rules_are_rules, read_theory};
+use mp_theory::{Theory, theory_laws};
+use mp_theorytext::{read_theories_are_theories, read_theory};
 use mp_words::TextFail;
 use std::alloc::Global;
 
@@ -32,7 +31,7 @@ fn read_file<H: Shelf>(
     name: &Text,
     kind: FileKind,
 ) -> Result<Text, Stop>
-    ensures calls { (calls : List Read) × Chain H.reads shelf.old shelf.new calls × taken_from kind (Named name.now) calls result }
+    ensures calls { Makes H.reads (taken_from kind (Named name.now)) shelf.old shelf.new result }
     ensures bound { IfOk result (λ text. length text ≤ limit_of_kind kind) }
 {
     match shelf.read(alloc, name, limit_of(kind)) {
@@ -61,13 +60,15 @@ pub fn theory_of<H: Shelf>(
     name: &Text,
 ) -> Result<Theory, Stop>
     requires room { length names.old + LONGEST_FILE < 2 ^ 32 - 1 }
-    ensures rules { IfOk result (λ theory. AreRules theory) }
-    ensures calls { (calls : List Read) × Chain H.reads shelf.old shelf.new calls × read_as FileKind.Theory (Named name.now) (ReadsTheory names.old) calls (with_names names.new result) }
+    ensures theory { IfOk result IsTheory }
+    ensures calls { Makes H.reads (read_as FileKind.Theory (Named name.now) (ReadsTheory no_laws names.old)) shelf.old shelf.new (with_names names.new result) }
     ensures few { length names.new ≤ length names.old + LONGEST_FILE }
 {
-    read_rules_are_rules();
+    theory_laws();
+    read_theories_are_theories();
     let source = read_file(alloc, shelf, name, FileKind::Theory)?;
-    match read_theory(alloc, names, source.as_slice()) {
+    let none = Theory::new(alloc);
+    match read_theory(alloc, names, none, source.as_slice()) {
         Ok(theory) => Ok(theory),
         Err(fail) => Err(stop_of(alloc, FileKind::Theory, fail)),
     }
@@ -82,7 +83,7 @@ pub fn script_of<H: Shelf>(
     name: &Text,
 ) -> Result<Script, Stop>
     requires room { length names.old + LONGEST_FILE < 2 ^ 32 - 1 }
-    ensures calls { (calls : List Read) × Chain H.reads shelf.old shelf.new calls × read_as FileKind.Script (Named name.now) (ReadsScript theory.now names.old) calls (with_names names.new result) }
+    ensures calls { Makes H.reads (read_as FileKind.Script (Named name.now) (ReadsScript theory.now names.old)) shelf.old shelf.new (with_names names.new result) }
     ensures good { IfOk result (λ script. EachGood theory.now script.entries) }
     ensures few { length names.new ≤ length names.old + LONGEST_FILE }
 {
@@ -102,7 +103,7 @@ pub fn schedule_of<H: Shelf>(
     name: &Text,
 ) -> Result<Items<Section>, Stop>
     requires room { length names.old + LONGEST_FILE < 2 ^ 32 - 1 }
-    ensures calls { (calls : List Read) × Chain H.reads shelf.old shelf.new calls × read_as FileKind.Schedule (Named name.now) (ReadsSchedule goals.now names.old) calls (with_names names.new result) }
+    ensures calls { Makes H.reads (read_as FileKind.Schedule (Named name.now) (ReadsSchedule goals.now names.old)) shelf.old shelf.new (with_names names.new result) }
     ensures range { IfOk result EachInRange }
 {
     let source = read_file(alloc, shelf, name, FileKind::Schedule)?;

@@ -34,11 +34,11 @@ fn run_command<H: Shelf, K: Sink>(
 
 /// Runs the command that the words give, over these files and into this sink, and answers how it ended.
 ///
-/// The calls of `read` and of `put` that it makes, in order, are those of a session of the command. Each file is read once,
-/// in its turn: the theory, the script, and the schedule if one is drilled; the first one that can't be read or is refused is told
-/// by its line. Else the piece of each goal is put by one call, goal by goal: the text of the tree or failure that evaluation
-/// from left to right gives; or that of a drill, after the replies. A put that fails ends the run. If the words are no command,
-/// nothing is read and the usage line is put. It ends with NoMemory where memory runs out, and with no other status.
+/// The calls of `read` and of `put` that it makes, in order, are those of a session of the command. Each file is read at most
+/// once, in its turn: the theory, the script, and the schedule if one is drilled; the first one that can't be read or is refused
+/// is told by its line, and none is read after it. Else the piece of each goal is put by one call, goal by goal: the text of the
+/// tree or failure that evaluation from left to right gives; or that of a drill, after the replies. A put that fails ends the run.
+/// If the words are no command, nothing is read and the usage line is put. Where memory runs out, the run ends with NoMemory.
 ///
 /// What is known of the bytes and the counts follows by the laws of this crate, whatever the shelf and the sink tell.
 pub fn run_here<H: Shelf, K: Sink>(

@@ -5,10 +5,10 @@ use Rattle.std.proofs.lemmas.Bool.{cases_lt}
 use Rattle.std.proofs.lemmas.Bool.Decides.{nat_tests}
 use Rattle.std.proofs.lemmas.Map.Keys.{apart_from_distinct, IsDistinct-from_apart}
 use Rattle.std.proofs.lemmas.List.{length-append, length-map, get_or-map, get_or_append_left, get_or-append_right, get_or_default}
-use Rattle.mp_schema.specs.Instances.{upto}
+use Rattle.mp_term.specs.Subst.{upto}
 use Rattle.mp_schema.specs.Conditions.{apart_from, all_apart}
 use Rattle.mp_schema.proofs.Agreeing.{and_both}
-use Rattle.mp_schema.proofs.Ranges.{length-upto, get_or-upto}
+use Rattle.mp_term.proofs.Ranges.{length-upto, get_or-upto}
 
 -- no number is in the list twice
 abbrev pub Apart : List ℕ → Type 0
@@ -105,15 +105,6 @@ Apart-upto m k i j lt inside =
 
 pub Below-upto : (m k : ℕ) → Below (m + k) (upto m k)
 Below-upto m k i lt = let l = length-upto m k in rw (get_or-upto m k i 0 (omega arith)) (omega arith)
-
--- a range differs from what is outside of it
-abbrev pub Outside : ℕ → ℕ → List ℕ → Type 0
-Outside m k xs = (i : ℕ) → i < length xs → (get_or xs i 0 < m) ⊎ (m + k ≤ get_or xs i 0)
-
-pub Differ-upto : (m k : ℕ) (xs : List ℕ) → Outside m k xs → Differ (upto m k) xs
-Differ-upto m k xs h i j lt inside =
-    let l = length-upto m k in
-    rw (get_or-upto m k i 0 (omega arith)) (elim (h j inside) [ inl low ↦ λ e. absurd (omega arith) | inr high ↦ λ e. absurd (omega arith) ])
 
 pub Below-Differ-upto : (m k : ℕ) (xs : List ℕ) → Below m xs → Differ xs (upto m k)
 Below-Differ-upto m k xs h i j lt inside =

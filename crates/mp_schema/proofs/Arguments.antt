@@ -3,11 +3,11 @@ use Rattle.std.proofs.Common.{◌≡◌, ℕ, ◌+◌, ◌-◌, ◌<◌, ◌≤�
 use Rattle.std.specs.List.{IsDistinct}
 use Rattle.std.proofs.lemmas.Bool.Decides.{nat_tests}
 use Rattle.std.proofs.lemmas.List.{length-append}
-use Rattle.mp_schema.specs.Instances.{upto}
+use Rattle.mp_term.specs.Subst.{upto}
 use Rattle.mp_schema.specs.Conditions.{Seen, is_level_below, all_variables, all_apart, args_fine, or_zero}
 use Rattle.mp_schema.specs.Conditions.{argument}
 use Rattle.mp_schema.proofs.Agreeing.{and_both}
-use Rattle.mp_schema.proofs.Ranges.{length-upto}
+use Rattle.mp_term.proofs.Ranges.{length-upto}
 use Rattle.mp_schema.proofs.Apart.{Apart, Below, Apart-from, Apart-to, Below-from, Below-to, Apart-append, Apart-left, Apart-right, Apart-differ, Below-append, Below-left, Below-right, Below-more, Apart-upto, Below-upto, Below-Differ-upto, Differ-append, chosen, Apart-chosen, Differ-chosen, Below-chosen, Apart-tested}
 
 abbrev pub levels_of_args : List Seen → List ℕ

@@ -9,7 +9,7 @@ use Rattle.mp_schema.specs.declared.schema.Item.TheVariants.{Ctx, Hyp}
 use Rattle.mp_schema.specs.Conditions.{Before, nothing_before, past, past_all, each_item, has, has_all, contexts_among}
 use Rattle.mp_schema.specs.Occurrences.{Occurrence}
 use Rattle.mp_schema.specs.Faults.{all_listed}
-use Rattle.mp_schema.proofs.Finding.{left-cons}
+use Rattle.mp_term.proofs.SubLaws.{drop-at}
 
 -- what stands before the item at this place
 abbrev pub before_at : List Item → ℕ → Before
@@ -24,21 +24,15 @@ before-next items i x h e =
     ap (λ xs. past_all xs nothing_before) (take_more items i x h ∙ ap (λ y. take i items ++ y ∷ []) (sym e))
     ∙ past_all-append (take i items) (x ∷ []) nothing_before
 
-pub before-end : (items : List Item) (i : ℕ) → length items ≤ i → before_at items i ≡ past_all items nothing_before
-before-end items i h = ap (λ xs. past_all xs nothing_before) (take_all i items h)
-
 -- the items from place i on are as good with what stands before them as all items are
 pub record Walked (good : Item → Before → Bool) (items : List Item) (i : ℕ) : Type 0 where
   pub left : each_item good (drop i items) (before_at items i) ≡ each_item good items nothing_before
 
 module _ (good : Item → Before → Bool) (items : List Item) where
-  pub walked-start : Walked good items 0
-  walked-start = record { left = refl }
-
   module _ (i : ℕ) (x : Item) (h : i < length items) (e : x ≡ get_or items i x) (w : Walked good items i) where
     opened : each_item good items nothing_before ≡ (good x (before_at items i) && each_item good (drop (i + 1) items) (before_at items (i + 1)))
     opened =
-        sym w.left ∙ ap (λ xs. each_item good xs (before_at items i)) (left-cons items i x h e)
+        sym w.left ∙ ap (λ xs. each_item good xs (before_at items i)) (drop-at items i x h e)
         ∙ ap (λ b. good x (before_at items i) && each_item good (drop (i + 1) items) b) (sym (before-next items i x h e))
 
     pub walked-next : good x (before_at items i) ≡ true → Walked good items (i + 1)

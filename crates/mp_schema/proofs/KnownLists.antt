@@ -1,16 +1,15 @@
 -- A pattern's instance depends on the variables of its own lists of contexts alone.
-use Rattle.std.proofs.Common.{◌≡◌, ℕ, ◌+◌, List, [], ◌∷◌, ◌++◌, map, true, refl, sym, ◌∙◌}
+use Rattle.std.proofs.Common.{◌≡◌, ℕ, List, [], ◌∷◌, map, true, refl, sym, ◌∙◌}
 use Rattle.mp_logic.specs.declared.sym.Sym.{Sym}
 use Rattle.mp_term.specs.declared.term.Term.{Term}
-use Rattle.mp_term.specs.Subst.{variables}
 use Rattle.mp_schema.specs.declared.pattern.ParamPat.{ParamPat}
 use Rattle.mp_schema.specs.declared.pattern.Pattern.{Pattern}
 use Rattle.mp_schema.specs.declared.pattern.Pattern as pat
 use Rattle.mp_schema.specs.declared.pattern.PBound.{PBound}
 use Rattle.mp_schema.specs.Induction.{OfEachBody, OfEachArg, each_pattern}
-use Rattle.mp_schema.specs.Instances.{Values, Ground, Wide, made_each, inst_of, inst_bound, all_pass, fits, fits_bound}
+use Rattle.mp_schema.specs.Instances.{Values, Ground, Wide, inst_of, all_pass, fits, fits_bound}
 use Rattle.mp_schema.specs.Conditions.{is_known, lists_known, lists_known_bound}
-use Rattle.mp_schema.proofs.Layers.{inst-Var, inst-Op, inst-Meta, inst_bound-is, fits-Var, fits-Op, fits-Meta, fits_bound-is, lists_known-Op, lists_known-Meta, lists_known_bound-is}
+use Rattle.mp_schema.proofs.Layers.{fits-Var, fits-Op, fits-Meta, fits_bound-is, lists_known-Op, lists_known-Meta, lists_known_bound-is}
 use Rattle.mp_schema.proofs.Agreeing.{and_both, same_inst}
 
 pub inst-known : (known : List Sym) (g h : Ground) (v : Values) → ((names : List Sym) → is_known known names ≡ true → g names ≡ h names) → (p : Pattern) → lists_known known p ≡ true →

@@ -1,14 +1,14 @@
 -- The contexts and the named hypotheses before a place lie apart.
-use Rattle.std.proofs.Common.{◌≡◌, ℕ, ◌+◌, ◌<◌, ◌≤◌, List, [], ◌∷◌, ◌++◌, length, map, Bool, true, false, not, nat_eq, All, inl, inr, refl, sym, ap, ◌∙◌, subst, arith}
+use Rattle.std.proofs.Common.{◌≡◌, ℕ, ◌+◌, ◌<◌, ◌≤◌, List, [], ◌∷◌, ◌++◌, map, Bool, true, false, not, nat_eq, All, inl, inr, refl, sym, arith}
 use Rattle.std.specs.Prelude.{◌||◌, if◌then◌else◌}
 use Rattle.std.specs.List.{IsDistinct}
 use Rattle.std.proofs.lemmas.Bool.Decides.{nat_tests}
 use Rattle.std.proofs.lemmas.Grind.{common_steps}
 use Rattle.mp_logic.specs.declared.sym.Sym.{Sym}
-use Rattle.mp_schema.specs.Instances.{upto}
+use Rattle.mp_term.specs.Subst.{upto}
 use Rattle.mp_schema.specs.Conditions.{has, has_all, is_apart, is_known}
 use Rattle.mp_logic.specs.Lists.{joined}
-use Rattle.mp_schema.proofs.Lists.{decided}
+use Rattle.mp_term.proofs.EqualTerms.{decided}
 use Rattle.mp_schema.proofs.Agreeing.{and_both}
 use Rattle.mp_schema.proofs.UseKinds.{same_name}
 use Rattle.mp_schema.proofs.Apart.{Apart, Below, Differ, Apart-to, Below-to, Apart-append, Below-append, Below-more, Apart-upto, Below-upto, Differ-append, Below-Differ-upto}
@@ -38,7 +38,7 @@ Apart-nil i j lt inside = absurd (omega arith)
 Below-nil : (n : ℕ) → Below n []
 Below-nil n i lt = absurd (omega arith)
 
-not_true : (b : Bool) → not b ≡ true → b ≡ false
+pub not_true : (b : Bool) → not b ≡ true → b ≡ false
 not_true true h = absurd cc
 not_true false h = refl
 

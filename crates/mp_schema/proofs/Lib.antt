@@ -6,11 +6,13 @@ pub mod Before
 pub mod Befores
 pub mod Conditional
 pub mod Entering
+pub mod Entries
 pub mod Faultless
 pub mod Finding
 pub mod Fitting
 pub mod HoleNames
 pub mod KnownLists
+pub mod Laws
 pub mod Layers
 pub mod Laying
 pub mod Likeness
@@ -21,7 +23,6 @@ pub mod OnePattern
 pub mod Passing
 pub mod Placed
 pub mod Placing
-pub mod Ranges
 pub mod Rewrites
 pub mod Rows
 pub mod Spread

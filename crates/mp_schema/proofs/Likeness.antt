@@ -10,30 +10,17 @@ use Rattle.mp_schema.specs.Faultless.{IsLike, AreAlike}
 use Rattle.mp_schema.specs.Faults.{same_names, is_like, is_like_first, is_consistent}
 use Rattle.mp_logic.specs.Lists.{same_bool}
 use Rattle.mp_schema.specs.Occurrences.{Occurrence, first_named}
+use Rattle.mp_schema.proofs.UseKinds.{same_bool-is, same_names-is}
 
 -- ## Two occurrences
-
-bool_same : (a b : Bool) → same_bool a b ≡ true → a ≡ b
-bool_same true b e = sym e
-bool_same false true e = absurd (cc)
-bool_same false false e = refl
-
-names_same : (xs ys : List Sym) → same_names xs ys ≡ true → xs ≡ ys
-names_same [] [] e = refl
-names_same [] (y ∷ ys) e = absurd (cc)
-names_same (x ∷ xs) [] e = absurd (cc)
-names_same (x ∷ xs) (y ∷ ys) e =
-    let parts = and_parts (nat_eq x.0 y.0) (same_names xs ys) e in
-    let number : x.0 ≡ y.0 = grind (arith, nat_tests, parts.0) in
-    ap (λ (k : ℕ). record { 0 = k } ∷ xs) number ∙ ap (λ rest. y ∷ rest) (names_same xs ys parts.1)
 
 pub IsLike-from : (o other : Occurrence) → is_like o other ≡ true → IsLike o other
 IsLike-from o other e =
     let parts = and_parts (same_bool o.is_context other.is_context && same_names o.ctxs other.ctxs) (nat_eq (length o.levels) (length other.levels)) e in
     let both = and_parts (same_bool o.is_context other.is_context) (same_names o.ctxs other.ctxs) parts.0 in
     record {
-      same_kind = bool_same _ _ both.0;
-      same_contexts = names_same _ _ both.1;
+      same_kind = same_bool-is _ _ both.0;
+      same_contexts = same_names-is _ _ both.1;
       same_number = grind (arith, nat_tests, parts.1);
     }
 

@@ -1,4 +1,5 @@
 -- Elements of lists.
+pub use Rattle.mp_term.proofs.EqualTerms.{decided}
 use Rattle.std.proofs.Common.{◌≡◌, ◌⊎◌, inl, inr, zero, suc, List, [], ◌∷◌, ◌++◌, Bool, true, false, cond, Option, Some, None, refl, sym, ap, ◌∙◌, subst, arith}
 use Rattle.std.specs.Prelude.{◌&&◌, All}
 use Rattle.std.specs.List.{list_all, flat_map, find, AllByRecursion}
@@ -8,11 +9,6 @@ use Rattle.mp_schema.specs.Occurrences.{In}
 abbrev pub value_or : {X : Type 0} → X → Option X → X
 value_or d None = d
 value_or d (Some x) = x
-
--- a test is passed or not
-pub decided : (b : Bool) → (b ≡ true) ⊎ (b ≡ false)
-decided true = inl refl
-decided false = inr refl
 
 module _ {X : Type 0} where
   module _ (P : X → Type 0) where
@@ -32,19 +28,6 @@ module _ {X : Type 0} where
         at : P x → All P xs → All P (x ∷ xs)
         at here rest zero d lt = here
         at here rest (suc i) d lt = rest i d (omega arith)
-
-    pub each-append : (xs ys : List X) → AllByRecursion P xs → AllByRecursion P ys → AllByRecursion P (xs ++ ys)
-    each-append [] ys h k = k
-    each-append (x ∷ xs) ys h k = (h.0, each-append xs ys h.1 k)
-
-    pub each-split : (xs ys : List X) → AllByRecursion P (xs ++ ys) → AllByRecursion P xs × AllByRecursion P ys
-    each-split [] ys h = (tt, h)
-    each-split (x ∷ xs) ys h = let k = each-split xs ys h.1 in ((h.0, k.0), k.1)
-
-  module _ (P Q : X → Type 0) (to : (x : X) → P x → Q x) where
-    pub each-weaker : (xs : List X) → AllByRecursion P xs → AllByRecursion Q xs
-    each-weaker [] h = tt
-    each-weaker (x ∷ xs) h = (to x h.0, each-weaker xs h.1)
 
   pub in-left : (x : X) (xs ys : List X) → In x xs → In x (xs ++ ys)
   in-left x [] ys i = absurd i
@@ -108,17 +91,3 @@ module _ {X Y : Type 0} (f : X → List Y) where
     | inl j ↦ (z, (inl refl, j))
     | inr j ↦ let r = flat-in xs y j in (r.0, (inr r.1.0, r.1.1))
   ]
-
-  module _ (P : Y → Type 0) where
-    pub each-flat : (xs : List X) → AllByRecursion (λ x. AllByRecursion P (f x)) xs → AllByRecursion P (flat_map f xs)
-    each-flat [] h = tt
-    each-flat (x ∷ xs) h = each-append P (f x) (flat_map f xs) h.0 (each-flat xs h.1)
-
-    pub flat-each : (xs : List X) → AllByRecursion P (flat_map f xs) → AllByRecursion (λ x. AllByRecursion P (f x)) xs
-    flat-each [] h = tt
-    flat-each (x ∷ xs) h = let k = each-split P (f x) (flat_map f xs) h in (k.0, flat-each xs k.1)
-
-  module _ (test : Y → Bool) where
-    pub all-flat : (xs : List X) → list_all test (flat_map f xs) ≡ list_all (λ x. list_all test (f x)) xs
-    all-flat [] = refl
-    all-flat (x ∷ xs) = let ih = all-flat xs in list_all-append test (f x) (flat_map f xs) ∙ ap (λ b. list_all test (f x) && b) ih

@@ -1,34 +1,32 @@
 -- Instances that make a conclusion one goal agree on every name of the conclusion.
-use Rattle.std.proofs.Common.{◌≡◌, ℕ, ◌+◌, ◌-◌, ◌<◌, ◌≤◌, List, [], ◌∷◌, ◌++◌, length, map, Bool, true, false, not, nat_eq, IsTrue, All, Option, Some, None, inl, inr, suc, refl, sym, ap, ◌∙◌, subst, append_assoc, append-nil, arith}
-use Rattle.std.specs.Prelude.{◌&&◌, ◌||◌, sum, IsSome}
+use Rattle.std.proofs.Common.{◌≡◌, ℕ, ◌+◌, ◌-◌, ◌<◌, ◌≤◌, List, [], ◌∷◌, ◌++◌, length, map, Bool, true, false, not, nat_eq, IsTrue, All, Option, Some, None, inl, inr, suc, refl, sym, ap, ◌∙◌, subst, append-nil, arith}
+use Rattle.std.specs.Prelude.{◌&&◌, ◌||◌, IsSome}
 use Rattle.std.specs.List.{IsDistinct, list_all, flat_map}
 use Rattle.std.proofs.lemmas.Bool.Decides.{nat_tests}
 use Rattle.std.proofs.lemmas.Grind.{common_steps}
-use Rattle.std.proofs.lemmas.List.{length-append, length-map, map-append, length_push}
+use Rattle.std.proofs.lemmas.List.{length-append, length-map, length_push}
 use Rattle.mp_logic.specs.declared.sym.Sym.{Sym}
 use Rattle.mp_term.specs.declared.term.Term.{Term, Var}
 use Rattle.mp_term.specs.declared.sequent.Sequent.{Sequent}
-use Rattle.mp_term.specs.Terms.{in_scope_of}
 use Rattle.mp_term.specs.Limits.{in_scopes_from}
-use Rattle.mp_term.specs.Subst.{sub_of, variables}
+use Rattle.mp_term.specs.Subst.{upto}
 use Rattle.mp_schema.specs.declared.pattern.Pattern.{Pattern}
 use Rattle.mp_schema.specs.declared.schema.Item.{Item}
 use Rattle.mp_schema.specs.declared.schema.Item.TheVariants.{Ctx, Hyp}
 use Rattle.mp_schema.specs.declared.schema.Schema.{Schema}
 use Rattle.mp_schema.specs.Conditions.{Before, Seen, argument, seen, below, past, past_all, nothing_before, each_item, item_placed, item_fine, args_fine, all_variables, pattern_placed, all_placed, has, has_all, is_apart, is_known, lists_known, contexts_among, context_names, has_two_contexts, is_placed, is_fine, is_conclusion}
-use Rattle.mp_schema.specs.Instances.{upto, made_each, inst_of, fits, all_pass}
+use Rattle.mp_schema.specs.Instances.{inst_of, fits, all_pass}
 use Rattle.mp_schema.specs.Occurrences.{In, Occurrence, occurrences_in, occurrences_in_item, occurrences_in_schema, holes_in, holes_in_item, holes_in_schema}
-use Rattle.mp_schema.specs.Sequents.{Instance, Spot, ground_at, first_spot, wide_of, telescope, hyps_of, hyps_from, behind, behind_all, concl_at, item_fits, schema_fits}
-use Rattle.mp_logic.specs.Lists.{joined}
+use Rattle.mp_schema.specs.Sequents.{Instance, Spot, ground_at, first_spot, wide_of, hyps_of, hyps_from, behind, behind_all, concl_at, item_fits}
 use Rattle.mp_schema.specs.Solutions.{SameValue, AgreeOn, FirstHas, HasFirst, GivesGoal}
 use Rattle.mp_schema.proofs.Agreeing.{and_both}
 use Rattle.mp_schema.proofs.Apart.{Apart-from, Apart-to, Apart-left, Below-from, Below-to, Below-left}
 use Rattle.mp_schema.proofs.Arguments.{fine-variables, arguments-distinct, arguments-below}
 use Rattle.mp_schema.proofs.UseKinds.{same_name, plain, context_at}
-use Rattle.mp_schema.proofs.Laying.{block, blocks, IsLaidOut, laid-first, blocks-distinct, blocks-low, laid-named, laid-context}
-use Rattle.mp_schema.proofs.Lists.{decided, in-split}
-use Rattle.mp_schema.proofs.OnePattern.{args-made, renaming-injective, one_pattern}
-use Rattle.mp_schema.proofs.Ranges.{length-upto}
+use Rattle.mp_schema.proofs.Laying.{blocks, IsLaidOut, laid-first, blocks-distinct, blocks-low, laid-named, laid-context}
+use Rattle.mp_schema.proofs.Lists.{in-split}
+use Rattle.mp_term.proofs.EqualTerms.{decided}
+use Rattle.mp_schema.proofs.OnePattern.{args-made, one_pattern}
 use Rattle.mp_schema.proofs.Rows.{placed_from, telescope-length, telescope_levels, telescope-placed, placed-injective, wide-ground}
 
 -- ## Sizes
@@ -347,10 +345,6 @@ module _ (c : Schema) (first : Option ℕ) (goal : Sequent) (v w : Instance) (co
       walk v w gives_v.ambient gives_w.ambient c.items first_spot nothing_before
       (record { laid = laid-first (λ c. 0) (λ c. length (v.kept c)); many = refl; counts = λ c e. absurd cc })
       placed fine (fit_parts v gives_v).0 (fit_parts w gives_w).0 sizes_same (hyps_made v gives_v ∙ sym (hyps_made w gives_w))
-
-  -- the place after the items, which is the same in both
-  pub same_spot : behind_all w c.items first_spot ≡ behind_all v c.items first_spot
-  same_spot = let e = ended in e.spot
 
   -- the instances have the same values where the conclusion has names
   pub one_instance : AgreeOn v w (occurrences_in_schema c) (holes_in_schema c)

@@ -9,7 +9,7 @@ use Rattle.mp_term.specs.declared.term.Term.{Term, Term-F, Var, Op, out-Term, th
 use Rattle.mp_term.specs.declared.term.Term.TheOpen as layer
 use Rattle.mp_term.specs.declared.term.Bound.{Bound}
 use Rattle.mp_term.specs.Terms.{in_scope_of}
-use Rattle.mp_term.specs.Subst.{sub_of, variables, unrenamed}
+use Rattle.mp_term.specs.Subst.{sub_of, variables, unrenamed, upto}
 use Rattle.mp_term.proofs.Renaming.{unrenamed-sub}
 use Rattle.mp_term.proofs.SubLaws.{under-none}
 use Rattle.mp_schema.specs.declared.pattern.Pattern.{Pattern}
@@ -19,12 +19,12 @@ use Rattle.mp_schema.specs.declared.pattern.ParamPat.TheVariants.{Lit, Hole}
 use Rattle.mp_schema.specs.declared.pattern.PBound.{PBound}
 use Rattle.mp_schema.specs.Induction.{each_pattern, OfEachBody, OfEachArg}
 use Rattle.mp_schema.specs.Conditions.{argument, Seen, seen, seen_bound, is_level_below, all_variables, all_fine, is_known, lists_known, lists_known_bound}
-use Rattle.mp_schema.specs.Instances.{Values, Ground, Wide, upto, made_each, param_of, inst_of, inst_bound, fits, fits_bound, all_pass}
+use Rattle.mp_schema.specs.Instances.{Values, Ground, Wide, made_each, param_of, inst_of, inst_bound, fits, fits_bound, all_pass}
 use Rattle.mp_schema.specs.Occurrences.{In, Occurrence, occurrences_in, occurrences_in_bound, hole_in_param, holes_in, holes_in_bound}
 use Rattle.mp_schema.proofs.Layers.{inst-Var, inst-Op, inst-Meta, inst_bound-is, fits-Op, fits-Meta, fits_bound-is, seen-Var, seen-Op, seen-Meta, fine-Op, fine-Meta, fine_bound-is, lists_known-Op, lists_known-Meta, lists_known_bound-is, occurrences_in-Var, occurrences_in-Op, occurrences_in-Meta, occurrences_in_bound-is, holes_in-Var, holes_in-Op, holes_in-Meta, holes_in_bound-is}
 use Rattle.mp_schema.proofs.Lists.{in-split, value_or}
 use Rattle.mp_schema.proofs.Agreeing.{and_both}
-use Rattle.mp_schema.proofs.Ranges.{length-upto, upto-append, map-Var-upto}
+use Rattle.mp_term.proofs.Ranges.{length-upto, upto-append, map-Var-upto}
 use Rattle.mp_schema.proofs.Arguments.{fine-variables, arguments-distinct, arguments-below}
 
 -- ## Terms

@@ -1,6 +1,6 @@
 -- The hypotheses of a context are determined by their terms.
-use Rattle.std.proofs.Common.{◌≡◌, ℕ, ◌+◌, ◌<◌, List, [], ◌∷◌, ◌++◌, length, map, zero, suc, true, nat_eq, IsTrue, All, refl, sym, ap, ◌∙◌, append_assoc, append-nil, add-one, arith}
-use Rattle.std.specs.Prelude.{◌&&◌, sum}
+use Rattle.std.proofs.Common.{◌≡◌, ℕ, ◌+◌, ◌<◌, List, [], ◌∷◌, ◌++◌, length, map, suc, true, nat_eq, All, refl, sym, ap, ◌∙◌, append_assoc, append-nil, add-one, arith}
+use Rattle.std.specs.Prelude.{sum}
 use Rattle.std.specs.List.{IsDistinct}
 use Rattle.std.proofs.lemmas.Grind.{common_steps}
 use Rattle.std.proofs.lemmas.List.{length-append, map-append}
@@ -8,16 +8,16 @@ use Rattle.mp_logic.specs.declared.sym.Sym.{Sym}
 use Rattle.mp_term.specs.declared.term.Term.{Term, Var}
 use Rattle.mp_term.specs.Terms.{in_scope_of}
 use Rattle.mp_term.specs.Limits.{in_scopes_from}
-use Rattle.mp_term.specs.Subst.{sub_of, variables}
+use Rattle.mp_term.specs.Subst.{sub_of, variables, upto}
 use Rattle.mp_schema.specs.declared.pattern.Pattern.{Pattern}
 use Rattle.mp_schema.specs.Conditions.{Seen, argument, seen, all_variables}
-use Rattle.mp_schema.specs.Instances.{upto, made_each, inst_of}
+use Rattle.mp_schema.specs.Instances.{made_each, inst_of}
 use Rattle.mp_schema.specs.Sequents.{Instance, Spot, ground_at, wide_of, telescope}
 use Rattle.mp_logic.specs.Lists.{joined}
 use Rattle.mp_schema.proofs.Agreeing.{and_both}
 use Rattle.mp_schema.proofs.Apart.{Apart-from, Apart-to, Apart-append, Apart-upto, Below-Differ-upto, Below-from, Below-to, Below-append, Below-more, Below-upto}
 use Rattle.mp_schema.proofs.OnePattern.{args-made, renaming-injective}
-use Rattle.mp_schema.proofs.Ranges.{length-upto, upto-next, map-Var-upto}
+use Rattle.mp_term.proofs.Ranges.{length-upto, upto-next, map-Var-upto}
 
 -- ## Widths
 

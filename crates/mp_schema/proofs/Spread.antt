@@ -63,11 +63,11 @@ either_some (Some x) b = refl
 named-append : (a b : List Occurrence) (name : Sym) → is_some (first_named (a ++ b) name) ≡ (is_some (first_named a name) || is_some (first_named b name))
 named-append a b name = ap is_some (find-append _ a b) ∙ either_some (first_named a name) (first_named b name)
 
-or_left : (a b : Bool) → a ≡ true → (a || b) ≡ true
+pub or_left : (a b : Bool) → a ≡ true → (a || b) ≡ true
 or_left true b e = refl
 or_left false b e = absurd (cc)
 
-or_right : (a b : Bool) → b ≡ true → (a || b) ≡ true
+pub or_right : (a b : Bool) → b ≡ true → (a || b) ≡ true
 or_right true b e = refl
 or_right false b e = e
 

@@ -43,7 +43,7 @@ same_names-is (x ∷ xs) (y ∷ ys) e =
     let there : same_names xs ys ≡ true = grind (arith, common_steps) in
     let a = same_name x y here in let b = same_names-is xs ys there in rw (a, b) refl
 
-same_bool-is : (a b : Bool) → same_bool a b ≡ true → a ≡ b
+pub same_bool-is : (a b : Bool) → same_bool a b ≡ true → a ≡ b
 same_bool-is true b e = sym e
 same_bool-is false true e = absurd cc
 same_bool-is false false e = refl

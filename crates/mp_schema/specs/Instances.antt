@@ -1,5 +1,5 @@
 -- The instances of a pattern.
-use Rattle.std.specs.Prelude.{ℕ, ◌+◌, zero, suc, List, [], ◌∷◌, ◌++◌, map, length, Bool, true, ◌&&◌}
+use Rattle.std.specs.Prelude.{ℕ, ◌+◌, List, [], ◌∷◌, ◌++◌, map, length, Bool, true, ◌&&◌}
 use Rattle.std.specs.List.{slice_index_or}
 use Rattle.mp_logic.specs.declared.sym.Sym.{Sym}
 use Rattle.mp_term.specs.declared.term.Param.{Param}
@@ -18,11 +18,6 @@ use Rattle.mp_schema.specs.declared.pattern.Pattern.TheFolds.{fold-Pattern, fold
 pub record Values : Type 0 where
   pub meta : Sym → Term
   pub param : Sym → Param
-
--- the numbers from m to m + k - 1
-abbrev pub upto : ℕ → ℕ → List ℕ
-upto m zero = []
-upto m (suc k) = m ∷ upto (suc m) k
 
 -- what depends on the terms of the pattern's levels and on the scope
 abbrev pub Made : Type 0 → Type 0

@@ -4,6 +4,7 @@ pub mod Faults
 pub mod Induction
 pub mod Instances
 pub mod Limits
+pub mod Named
 pub mod Occurrences
 pub mod Places
 pub mod Sequents

@@ -5,12 +5,12 @@ use Rattle.mp_logic.specs.declared.sym.Sym.{Sym}
 use Rattle.mp_term.specs.declared.term.Term.{Term, Var}
 use Rattle.mp_term.specs.declared.sequent.Sequent.{Sequent}
 use Rattle.mp_term.specs.Limits.{in_scopes_from}
-use Rattle.mp_term.specs.Subst.{sub_of, variables}
+use Rattle.mp_term.specs.Subst.{sub_of, variables, upto}
 use Rattle.mp_schema.specs.declared.pattern.Pattern.{Pattern}
 use Rattle.mp_schema.specs.declared.schema.Item.{Item}
 use Rattle.mp_schema.specs.declared.schema.Item.TheVariants.{Ctx, Hyp}
 use Rattle.mp_schema.specs.declared.schema.Schema.{Schema}
-use Rattle.mp_schema.specs.Instances.{Values, Ground, made_each, upto, inst_of, fits, all_pass}
+use Rattle.mp_schema.specs.Instances.{Values, Ground, made_each, inst_of, fits, all_pass}
 use Rattle.mp_logic.specs.Lists.{joined}
 
 -- an instance: an ambient scope, a term for each second-order variable and a parameter for each hole, and the

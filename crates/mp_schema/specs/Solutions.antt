@@ -9,7 +9,8 @@ use Rattle.mp_schema.specs.declared.instance.MetaVal.{MetaVal}
 use Rattle.mp_schema.specs.declared.instance.Inst.{Inst}
 use Rattle.mp_schema.specs.declared.pattern.Pattern.{Pattern}
 use Rattle.mp_schema.specs.declared.schema.Schema.{Schema}
-use Rattle.mp_schema.specs.Instances.{Ground, upto, inst_of, fits}
+use Rattle.mp_schema.specs.Instances.{Ground, inst_of, fits}
+use Rattle.mp_term.specs.Subst.{upto}
 use Rattle.mp_schema.specs.Conditions.{has, context_names, has_two_contexts, is_conclusion}
 use Rattle.mp_schema.specs.Occurrences.{In, Occurrence, occurrences_in_schema, holes_in_schema}
 use Rattle.mp_schema.specs.Sequents.{Instance, first_spot, behind_all, seq, schema_fits}
@@ -34,12 +35,12 @@ pub record AgreeOn (v w : Instance) (os : List Occurrence) (holes : List Sym) : 
 
 -- ## Goals
 
--- the first of these contexts has so many hypotheses
+-- the first of these contexts, if there is one, has so many hypotheses
 abbrev pub FirstHas : Instance → List Sym → ℕ → Type 0
 FirstHas v [] n = Unit {0}
 FirstHas v (c ∷ contexts) n = length (v.kept c) ≡ n
 
--- the first context has the size that is given, if one is
+-- if a size is given, the first context has it, if there is one
 abbrev pub HasFirst : Instance → Schema → Option ℕ → Type 0
 HasFirst v s None = Unit {0}
 HasFirst v s (Some n) = FirstHas v (context_names s) n
@@ -51,7 +52,8 @@ pub record GivesGoal (s : Schema) (first : Option ℕ) (goal : Sequent) (v : Ins
   pub sized : HasFirst v s first
   pub same : seq v s ≡ goal
 
--- two instances that make a conclusion one goal agree on every name of the conclusion
+-- two instances that make a conclusion one goal agree on each of its names, if its first context's size is given where it has
+-- two contexts
 abbrev pub OneInstance : Type 0
 OneInstance =
     (s : Schema) (first : Option ℕ) (goal : Sequent) (v w : Instance) → IsTrue (is_conclusion s) → (IsTrue (has_two_contexts s) → IsSome first) →

@@ -8,7 +8,8 @@ use Rattle.mp_schema.specs.declared.instance.CtxVal.{CtxVal}
 use Rattle.mp_schema.specs.declared.instance.MetaVal.{MetaVal}
 use Rattle.mp_schema.specs.declared.instance.ParamVal.{ParamVal}
 use Rattle.mp_schema.specs.declared.instance.Inst.{Inst}
-use Rattle.mp_schema.specs.Instances.{Values, upto}
+use Rattle.mp_schema.specs.Instances.{Values}
+use Rattle.mp_term.specs.Subst.{upto}
 use Rattle.mp_schema.specs.Sequents.{Instance}
 use Rattle.mp_logic.specs.Lists.{joined}
 

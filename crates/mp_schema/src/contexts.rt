@@ -3,7 +3,7 @@ ghost use Rattle.mp_schema.specs.Conditions.{nothing_before, each_item, item_bet
 ghost use Rattle.mp_schema.specs.Faults.{is_listed, is_single};
 
 use crate::demand::{Demand, item_keeps, pattern_keeps, schema_keeps};
-use crate::place::{Place, are_contexts, are_names_apart, is_context};
+use crate::place::{Use, are_contexts, are_names_apart, is_context};
 use crate::{Item, Schema};
 
 /// The contexts of a list are among these items.
@@ -15,7 +15,7 @@ pub(crate) struct Listed<'a> {
 impl Demand for Listed<'_> {
     ghost keeps = { λ demand o. has_all (contexts_among demand.before.now) o.ctxs };
 
-    fn is_kept(&self, place: Place<'_>) -> bool {
+    fn is_kept(&self, place: Use<'_>) -> bool {
         are_contexts(self.before, place.ctxs)
     }
 }
@@ -27,7 +27,7 @@ pub(crate) struct Single;
 impl Demand for Single {
     ghost keeps = { λ demand o. is_apart o.ctxs };
 
-    fn is_kept(&self, place: Place<'_>) -> bool {
+    fn is_kept(&self, place: Use<'_>) -> bool {
         are_names_apart(place.ctxs)
     }
 }

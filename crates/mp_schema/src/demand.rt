@@ -3,14 +3,14 @@ ghost use Rattle.std.specs.List.{list_all, flat_map};
 ghost use Rattle.mp_schema.specs.Occurrences.{Occurrence, occurrences_in, occurrences_in_bound, occurrences_in_item, occurrences_in_schema};
 ghost use Rattle.mp_schema.specs.Places.{occurrence_at};
 
-use crate::place::Place;
+use crate::place::Use;
 use crate::{Item, PBound, Pattern, Schema};
 
 /// What is asked of each occurrence in a text.
 pub(crate) trait Demand {
     ghost keeps: { Self → Occurrence → Bool };
 
-    fn is_kept(&self, place: Place<'_>) -> bool
+    fn is_kept(&self, place: Use<'_>) -> bool
         ensures { result ≡ keeps self.now (occurrence_at place.entry) };
 }
 
@@ -33,7 +33,7 @@ pub(crate) fn item_keeps<D: Demand>(item: &Item, demand: &D) -> bool
     match item {
         Item::Hyp(p) => pattern_keeps(p, demand),
         Item::Ctx { name, ctxs, args } => {
-            let place = Place::new(true, *name, ctxs, args);
+            let place = Use::new(true, *name, ctxs, args);
             demand.is_kept(place) && patterns_keep(args.as_slice(), demand)
         }
     }
@@ -48,7 +48,7 @@ pub(crate) fn pattern_keeps<D: Demand>(p: &Pattern, demand: &D) -> bool
         Pattern::Var(_) => true,
         Pattern::Op { subs, .. } => bodies_keep(subs.as_slice(), demand),
         Pattern::Meta { name, ctxs, args } => {
-            let place = Place::new(false, *name, ctxs, args);
+            let place = Use::new(false, *name, ctxs, args);
             demand.is_kept(place) && patterns_keep(args.as_slice(), demand)
         }
     }

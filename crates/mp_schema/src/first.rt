@@ -4,12 +4,12 @@ ghost use Rattle.std.specs.Option.{option_map};
 ghost use Rattle.mp_schema.specs.Occurrences.{occurrences_in, occurrences_in_bound, occurrences_in_item, occurrences_in_schema, first_named};
 ghost use Rattle.mp_schema.specs.Places.{occurrence_at};
 
-use crate::place::Place;
+use crate::place::Use;
 use crate::{Item, PBound, Pattern, Schema};
 use mp_logic::Sym;
 
 // The first occurrence of the name in the schemata.
-pub(crate) fn first_in_schemata(schemata: &[Schema], name: Sym) -> Option<Place<'_>>
+pub(crate) fn first_in_schemata(schemata: &[Schema], name: Sym) -> Option<Use<'_>>
     ensures { option_map occurrence_at result ≡ first_named (flat_map occurrences_in_schema schemata.now) name }
 {
     for s in schemata {
@@ -21,7 +21,7 @@ pub(crate) fn first_in_schemata(schemata: &[Schema], name: Sym) -> Option<Place<
 }
 
 // The first occurrence of the name in the schema.
-pub(crate) fn first_in_schema(s: &Schema, name: Sym) -> Option<Place<'_>>
+pub(crate) fn first_in_schema(s: &Schema, name: Sym) -> Option<Use<'_>>
     ensures { option_map occurrence_at result ≡ first_named (occurrences_in_schema s.now) name }
 {
     for item in s.items.as_slice() {
@@ -32,7 +32,7 @@ pub(crate) fn first_in_schema(s: &Schema, name: Sym) -> Option<Place<'_>>
     first_in_pattern(&s.concl, name)
 }
 
-fn first_in_item(item: &Item, name: Sym) -> Option<Place<'_>>
+fn first_in_item(item: &Item, name: Sym) -> Option<Use<'_>>
     ensures { option_map occurrence_at result ≡ first_named (occurrences_in_item item.now) name }
 {
     match item {
@@ -43,7 +43,7 @@ fn first_in_item(item: &Item, name: Sym) -> Option<Place<'_>>
             args,
         } => {
             if other.0 == name.0 {
-                return Some(Place::new(true, *other, ctxs, args));
+                return Some(Use::new(true, *other, ctxs, args));
             }
             first_in_patterns(args.as_slice(), name)
         }
@@ -52,7 +52,7 @@ fn first_in_item(item: &Item, name: Sym) -> Option<Place<'_>>
 
 // The first occurrence of the name in the pattern.
 #[cycle(first)]
-pub(crate) fn first_in_pattern(p: &Pattern, name: Sym) -> Option<Place<'_>>
+pub(crate) fn first_in_pattern(p: &Pattern, name: Sym) -> Option<Use<'_>>
     ensures { option_map occurrence_at result ≡ first_named (occurrences_in p.now) name }
 {
     match p {
@@ -64,7 +64,7 @@ pub(crate) fn first_in_pattern(p: &Pattern, name: Sym) -> Option<Place<'_>>
             args,
         } => {
             if other.0 == name.0 {
-                return Some(Place::new(false, *other, ctxs, args));
+                return Some(Use::new(false, *other, ctxs, args));
             }
             first_in_patterns(args.as_slice(), name)
         }
@@ -72,7 +72,7 @@ pub(crate) fn first_in_pattern(p: &Pattern, name: Sym) -> Option<Place<'_>>
 }
 
 #[cycle(first)]
-fn first_in_bodies(subs: &[PBound], name: Sym) -> Option<Place<'_>>
+fn first_in_bodies(subs: &[PBound], name: Sym) -> Option<Use<'_>>
     ensures { option_map occurrence_at result ≡ first_named (flat_map occurrences_in_bound subs.now) name }
 {
     for sub in subs {
@@ -85,7 +85,7 @@ fn first_in_bodies(subs: &[PBound], name: Sym) -> Option<Place<'_>>
 
 // The first occurrence of the name in the patterns.
 #[cycle(first)]
-pub(crate) fn first_in_patterns(patterns: &[Pattern], name: Sym) -> Option<Place<'_>>
+pub(crate) fn first_in_patterns(patterns: &[Pattern], name: Sym) -> Option<Use<'_>>
     ensures { option_map occurrence_at result ≡ first_named (flat_map occurrences_in patterns.now) name }
 {
     for p in patterns {

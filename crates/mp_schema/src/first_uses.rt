@@ -9,7 +9,7 @@ ghost use Rattle.mp_schema.specs.Places.{occurrence_at};
 ghost use Rattle.mp_schema.specs.Tables.{use_of, Enters};
 
 use crate::demand::Demand;
-use crate::place::{Place, are_alike};
+use crate::place::{Use, are_alike};
 use crate::{Item, PBound, Pattern, Schema};
 use mp_logic::NoMemory;
 use std::alloc::Global;
@@ -18,12 +18,12 @@ use std::collections::HashMap;
 /// The first use of each name in a text, by the name's number. As a demand: it is used as there.
 #[derive(Drop)]
 pub(crate) struct FirstUses<'a> {
-    places: HashMap<u32, Place<'a>>,
+    places: HashMap<u32, Use<'a>>,
 }
 
 impl<'a> FirstUses<'a> {
     // A name that has a use keeps it.
-    fn enter(&mut self, place: Place<'a>) -> Result<(), NoMemory>
+    fn enter(&mut self, place: Use<'a>) -> Result<(), NoMemory>
         ensures { OnOk result (Enters self.old (occurrence_at place.entry ∷ []) self.new) }
     {
         match self.places.entry(place.name.0) {
@@ -39,7 +39,7 @@ impl<'a> FirstUses<'a> {
 impl Demand for FirstUses<'_> {
     ghost keeps = { λ uses o. is_like_first (use_of uses o.name) o };
 
-    fn is_kept(&self, place: Place<'_>) -> bool {
+    fn is_kept(&self, place: Use<'_>) -> bool {
         match self.places.get(&place.name.0) {
             Some(first) => are_alike(*first, place),
             None => false,
@@ -80,7 +80,7 @@ fn enter_item<'a>(item: &'a Item, uses: &mut FirstUses<'a>) -> Result<(), NoMemo
     match item {
         Item::Hyp(p) => enter_pattern(p, uses),
         Item::Ctx { name, ctxs, args } => {
-            let place = Place::new(true, *name, ctxs, args);
+            let place = Use::new(true, *name, ctxs, args);
             uses.enter(place)?;
             enter_patterns(args.as_slice(), uses)
         }
@@ -95,7 +95,7 @@ fn enter_pattern<'a>(p: &'a Pattern, uses: &mut FirstUses<'a>) -> Result<(), NoM
         Pattern::Var(_) => Ok(()),
         Pattern::Op { subs, .. } => enter_bodies(subs.as_slice(), uses),
         Pattern::Meta { name, ctxs, args } => {
-            let place = Place::new(false, *name, ctxs, args);
+            let place = Use::new(false, *name, ctxs, args);
             uses.enter(place)?;
             enter_patterns(args.as_slice(), uses)
         }

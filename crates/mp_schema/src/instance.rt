@@ -1,3 +1,4 @@
+use crate::{MetaVals, ParamVals};
 use mp_logic::{List, Sym};
 use mp_term::{Param, Term};
 
@@ -42,7 +43,7 @@ pub struct Inst {
     /// The contexts' values.
     pub ctxs: List<CtxVal>,
     /// The second-order variables' values.
-    pub metas: List<MetaVal>,
+    pub metas: MetaVals,
     /// The holes' values.
-    pub params: List<ParamVal>,
+    pub params: ParamVals,
 }

@@ -7,9 +7,9 @@ ghost use Rattle.mp_schema.specs.Places.{occurrence_at};
 use crate::{Item, Pattern};
 use mp_logic::{List, Sym};
 
-/// A place in a text where a context is an item, or where a second-order variable stands.
+/// A use of a name in a text: where a context is an item, or where a second-order variable stands.
 #[derive(Clone, Copy)]
-pub(crate) struct Place<'a> {
+pub(crate) struct Use<'a> {
     /// Whether it is a context.
     pub is_context: bool,
     /// The name.
@@ -20,17 +20,17 @@ pub(crate) struct Place<'a> {
     pub args: &'a [Pattern],
 }
 
-impl<'a> Place<'a> {
+impl<'a> Use<'a> {
     // Where a context or a second-order variable has this list of contexts and these arguments.
     pub(crate) fn new(
         is_context: bool,
         name: Sym,
         ctxs: &'a List<Sym>,
         args: &'a List<Pattern>,
-    ) -> Place<'a>
+    ) -> Use<'a>
         ensures { occurrence_at result ≡ record { is_context = is_context; name = name; ctxs = ctxs.now; levels = map variable_level args.now } }
     {
-        Place {
+        Use {
             is_context,
             name,
             ctxs: ctxs.as_slice(),
@@ -40,7 +40,7 @@ impl<'a> Place<'a> {
 }
 
 // Whether both are of one kind, with the same list of contexts and as many arguments.
-pub(crate) fn are_alike(first: Place<'_>, place: Place<'_>) -> bool
+pub(crate) fn are_alike(first: Use<'_>, place: Use<'_>) -> bool
     ensures { result ≡ is_like (occurrence_at first.entry) (occurrence_at place.entry) }
 {
     first.is_context == place.is_context

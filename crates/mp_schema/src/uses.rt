@@ -6,7 +6,7 @@ ghost use Rattle.mp_schema.specs.Places.{occurrence_at};
 
 use crate::demand::Demand;
 use crate::first::{first_in_pattern, first_in_patterns, first_in_schema, first_in_schemata};
-use crate::place::{Place, are_alike, are_distinct_variables};
+use crate::place::{Use, are_alike, are_distinct_variables};
 use crate::{Pattern, Schema};
 use mp_logic::Sym;
 
@@ -17,7 +17,7 @@ pub(crate) struct OnVariables;
 impl Demand for OnVariables {
     ghost keeps = { λ demand o. are_distinct o.levels };
 
-    fn is_kept(&self, place: Place<'_>) -> bool {
+    fn is_kept(&self, place: Use<'_>) -> bool {
         are_distinct_variables(place.args)
     }
 }
@@ -32,7 +32,7 @@ pub(crate) struct AsInRule<'a> {
 impl Demand for AsInRule<'_> {
     ghost keeps = { λ demand o. is_like_first (first_named (occurrences_of_rule demand.premises.now demand.concl.now) o.name) o };
 
-    fn is_kept(&self, place: Place<'_>) -> bool {
+    fn is_kept(&self, place: Use<'_>) -> bool {
         match first_in_rule(self.premises, self.concl, place.name) {
             Some(first) => are_alike(first, place),
             None => false,
@@ -41,7 +41,7 @@ impl Demand for AsInRule<'_> {
 }
 
 // The first occurrence of the name in the text of the rule.
-fn first_in_rule<'a>(premises: &'a [Schema], concl: &'a Schema, name: Sym) -> Option<Place<'a>>
+fn first_in_rule<'a>(premises: &'a [Schema], concl: &'a Schema, name: Sym) -> Option<Use<'a>>
     ensures { option_map occurrence_at result ≡ first_named (occurrences_of_rule premises.now concl.now) name }
 {
     match first_in_schemata(premises, name) {
@@ -61,7 +61,7 @@ pub(crate) struct AsInRewrite<'a> {
 impl Demand for AsInRewrite<'_> {
     ghost keeps = { λ demand o. is_like_first (first_named (occurrences_of_rewrite demand.conds.now demand.redex.now demand.contractum.now) o.name) o };
 
-    fn is_kept(&self, place: Place<'_>) -> bool {
+    fn is_kept(&self, place: Use<'_>) -> bool {
         match first_in_rewrite(self.conds, self.redex, self.contractum, place.name) {
             Some(first) => are_alike(first, place),
             None => false,
@@ -75,7 +75,7 @@ fn first_in_rewrite<'a>(
     redex: &'a Pattern,
     contractum: &'a Pattern,
     name: Sym,
-) -> Option<Place<'a>>
+) -> Option<Use<'a>>
     ensures { option_map occurrence_at result ≡ first_named (occurrences_of_rewrite conds.now redex.now contractum.now) name }
 {
     if let Some(place) = first_in_patterns(conds, name) {
@@ -96,7 +96,7 @@ pub(crate) struct BoundIn<'a> {
 impl Demand for BoundIn<'_> {
     ghost keeps = { λ demand o. is_some (first_named (occurrences_in demand.redex.now) o.name) };
 
-    fn is_kept(&self, place: Place<'_>) -> bool {
+    fn is_kept(&self, place: Use<'_>) -> bool {
         first_in_pattern(self.redex, place.name).is_some()
     }
 }

@@ -1,2 +1,5 @@
-pub mod OneReading
+pub mod PatternParts
+pub mod PatternSteps
+pub mod PatternUnfolds
 pub mod RawInduction
+pub mod RuleSteps

@@ -33,8 +33,8 @@ module _ (P : RawPattern → Type 0) where
   gathered_args [] = tt
   gathered_args (b ∷ bs) = (b.1, gathered_args bs)
 
-  module _ (var : (name : Sym) (left : ℕ) → P (raw.Var name left)) (op : (o : Sym) (ps : List RawParamPat) (subs : List RawPatternBound) (left : ℕ) → OfEachBody subs → P (raw.Op o ps subs left))
-      (meta : (name : Sym) (ctxs : List RawName) (args : List RawPattern) (left : ℕ) → OfEachArg args → P (raw.Meta name ctxs args left)) where
+  module _ (var : (name : Sym) (at : ℕ) → P (raw.Var name at)) (op : (o : Sym) (ps : List RawParamPat) (subs : List RawPatternBound) (at : ℕ) → OfEachBody subs → P (raw.Op o ps subs at))
+      (meta : (name : Sym) (ctxs : List RawName) (args : List RawPattern) (at : ℕ) → OfEachArg args → P (raw.Meta name ctxs args at)) where
     by_layer : (y : RawPattern-F Known KnownBound) → P (roll-RawPattern (map-RawPattern Known KnownBound RawPattern RawPatternBound (λ e. e.0) (λ e. e.0) y))
     by_layer (layer.Var n l) = subst P (sym (rolls-Var n l)) (var n l)
     by_layer (layer.Op o ps subs l) = subst P (sym (rolls-Op o ps (map (λ e. e.0) subs) l)) (op o ps (map (λ e. e.0) subs) l (gathered subs))

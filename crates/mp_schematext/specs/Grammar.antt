@@ -3,179 +3,179 @@
 --   item = < Cap ctxs? args? > | Small : pat     ctxs = < Cap (; Cap)* >     args = [ pat (; pat)* ]
 --   pat = SmallVar | CapVar ctxs? args? | Small pparams? psubs?     pparams = [ pparam (; pparam)* ]
 --   pparam = Num | Str | @ Small     psubs = { pbound (; pbound)* }     pbound = binders? pat
-use Rattle.std.specs.Prelude.{◌≡◌, ◌⊎◌, ℕ, List, [], ◌∷◌, length, Option}
-use Rattle.mp_logic.specs.declared.sym.Sym.{Sym}
-use Rattle.mp_schema.specs.declared.pattern.ParamPat.{ParamPat}
-use Rattle.mp_schema.specs.declared.pattern.ParamPat.TheVariants.{Lit, Hole}
+use Rattle.std.specs.Prelude.{ℕ, List, [], Option, None, Some}
+use Rattle.mp_words.specs.declared.word.What.{What}
+use Rattle.mp_words.specs.declared.word.What.TheVariants as what
 use Rattle.mp_words.specs.declared.word.Word.{Word}
 use Rattle.mp_words.specs.declared.word.Mark.TheVariants as mark
 use Rattle.mp_words.specs.declared.word.Keyword.TheVariants as keyword
 use Rattle.mp_words.specs.declared.raw.RawName.{RawName}
+use Rattle.mp_words.specs.Grammars.{Grammar, Is, Stuck, after, both, choose, ended, fronted, itself, listed, made, many, optional, or_word, row, stands, token}
+use Rattle.mp_words.specs.Fronts.{a_capital, a_capital_variable, a_name, capital_variable_at, is_mark, name_behind, with_place}
+use Rattle.mp_termtext.specs.declared.raw.RawParam.{RawParam}
+use Rattle.mp_termtext.specs.Grammar.{binders, param_at}
 use Rattle.mp_schematext.specs.declared.raw.RawParamPat.{RawParamPat}
+use Rattle.mp_schematext.specs.declared.raw.RawParamPat.TheVariants.{Lit, Hole}
 use Rattle.mp_schematext.specs.declared.raw.RawPatternBound.{RawPatternBound}
 use Rattle.mp_schematext.specs.declared.raw.RawPattern.{RawPattern, Var, Op, Meta}
 use Rattle.mp_schematext.specs.declared.raw.RawItem.{RawItem}
-use Rattle.mp_schematext.specs.declared.raw.RawItem.TheVariants as item
+use Rattle.mp_schematext.specs.declared.raw.RawItem.TheVariants.{Ctx, Hyp}
 use Rattle.mp_schematext.specs.declared.raw.RawSchema.{RawSchema}
 use Rattle.mp_schematext.specs.declared.raw.RawRule.{RawRule}
-use Rattle.mp_words.specs.Parts.{No, None_of, Lacks, IsMark, IsName, IsNameBehind, StuckNameBehind, IsCapAt, IsCapVar, EndedPart, StuckEnded, Both, StuckBoth, After, StuckAfter, Optional, StuckOptional, Separated, StuckSeparated, Listed, StuckListed, Many, StuckMany}
-use Rattle.mp_termtext.specs.Grammar.{IsVariable, IsParamWord, AreBinders, StuckBinders}
 
--- a number or a string, or @ and the name of the hole
-abbrev pub IsParamPatWord : ParamPat → List Word → List Word → Type 0
-IsParamPatWord (Lit p) ts rest = IsParamWord p ts rest
-IsParamPatWord (Hole name) ts rest = After (IsMark mark.At) IsName name ts rest
+-- ## Parts
 
--- a number, a string, or @ and a name
-abbrev pub IsParamPat : RawParamPat → List Word → List Word → Type 0
-IsParamPat p ts rest = IsParamPatWord p.value ts rest × (p.left ≡ length ts)
+-- the literal that a parameter is
+abbrev pub raw_literal : RawParam → RawParamPat
+raw_literal p = Lit p
 
--- after @ the name is due
-abbrev pub StuckParamPat : List Word → List Word → Type 0
-StuckParamPat ts rest = StuckOptional (IsMark mark.At) (Lacks IsName) ts rest ⊎ (No (IsMark mark.At) ts × Lacks IsParamPat ts rest)
+-- a hole, of the place of its @ and its name
+abbrev pub raw_hole : ℕ × RawName → RawParamPat
+raw_hole (at, name) = Hole name at
+
+-- @ and a name
+abbrev pub hole : Grammar Word RawParamPat
+hole = made raw_hole (with_place (after (is_mark mark.At) a_name))
+
+-- a hole, or a number or a string
+abbrev pub param_pat : Grammar Word RawParamPat
+param_pat = choose (fronted (is_mark mark.At)) hole (made raw_literal (token param_at))
 
 -- [ pparam (; pparam)* ], or nothing
-abbrev pub AreParamPats : List RawParamPat → List Word → List Word → Type 0
-AreParamPats = Optional (IsMark mark.OpenBracket) [] (Separated IsParamPat (IsMark mark.Semicolon) (IsMark mark.CloseBracket))
-
--- a reading of parameters is stuck at the first of these words
-abbrev pub StuckParamPats : List Word → List Word → Type 0
-StuckParamPats = StuckOptional (IsMark mark.OpenBracket) (StuckSeparated IsParamPat StuckParamPat (IsMark mark.Semicolon) (IsMark mark.CloseBracket))
+abbrev pub param_pats : Grammar Word (List RawParamPat)
+param_pats = optional (is_mark mark.OpenBracket) [] (row param_pat (is_mark mark.Semicolon) (is_mark mark.CloseBracket))
 
 -- < Cap (; Cap)* >, or nothing
-abbrev pub AreContexts : List RawName → List Word → List Word → Type 0
-AreContexts = Optional (IsMark mark.Less) [] (Separated IsCapAt (IsMark mark.Semicolon) (IsMark mark.Greater))
+abbrev pub contexts : Grammar Word (List RawName)
+contexts = optional (is_mark mark.Less) [] (row a_capital (is_mark mark.Semicolon) (is_mark mark.Greater))
 
--- a reading of contexts is stuck at the first of these words
-abbrev pub StuckContexts : List Word → List Word → Type 0
-StuckContexts = StuckOptional (IsMark mark.Less) (StuckSeparated IsCapAt (Lacks IsCapAt) (IsMark mark.Semicolon) (IsMark mark.Greater))
+-- ## Patterns
 
-mutual
-  -- the pattern stands at the front of the words, and these are left
-  pub data IsPattern : RawPattern → List Word → List Word → Type 0 where
-    variable : (t : RawPattern) (ts rest : List Word) (n : Sym) (k : Option ℕ) → t ≡ Var n (length ts) → IsVariable (n, k) ts rest → IsPattern t ts rest
-    second_order : (t : RawPattern) (ts rest : List Word) (n : Sym) (cs : List RawName) (xs : List RawPattern) (us vs : List Word) → t ≡ Meta n cs xs (length ts) → IsCapVar n ts us → AreContexts cs us vs → AreArguments xs vs rest → IsPattern t ts rest
-    operator : (t : RawPattern) (ts rest : List Word) (n : Sym) (ps : List RawParamPat) (ks : List RawPatternBound) (us vs : List Word) → t ≡ Op n ps ks (length ts) → IsName n ts us → AreParamPats ps us vs → ArePatternSubs ks vs rest → IsPattern t ts rest
+-- a variable at a place, if what is written is one
+abbrev pub written_pattern_variable : ℕ → What → Option RawPattern
+written_pattern_variable at (what.SmallVar n k) = Some (Var n at)
+written_pattern_variable at other = None
 
-  -- the arguments in brackets, or nothing
-  pub data AreArguments : List RawPattern → List Word → List Word → Type 0 where
-    no_arguments : (xs : List RawPattern) (ts rest : List Word) → xs ≡ [] → No (IsMark mark.OpenBracket) ts → rest ≡ ts → AreArguments xs ts rest
-    some_arguments : (xs : List RawPattern) (ts rest : List Word) (us : List Word) → IsMark mark.OpenBracket ts us → AreArgs xs us rest → AreArguments xs ts rest
+-- the variable that the word is
+abbrev pub pattern_variable_at : Word → Option RawPattern
+pattern_variable_at w = written_pattern_variable w.at w.what
 
-  -- the arguments one after the other, and then the end of their list
-  pub data AreArgs : List RawPattern → List Word → List Word → Type 0 where
-    last_arg : (xs : List RawPattern) (ts rest : List Word) (x : RawPattern) (us : List Word) → xs ≡ x ∷ [] → IsPattern x ts us → IsMark mark.CloseBracket us rest → AreArgs xs ts rest
-    more_args : (xs : List RawPattern) (ts rest : List Word) (x : RawPattern) (others : List RawPattern) (us vs : List Word) → xs ≡ x ∷ others → IsPattern x ts us → IsMark mark.Semicolon us vs → AreArgs others vs rest → AreArgs xs ts rest
+-- a second-order variable, of its name, its contexts and its arguments
+abbrev pub raw_meta : RawName × (List RawName × List RawPattern) → RawPattern
+raw_meta (n, (cs, xs)) = Meta n.name cs xs n.at
 
-  -- the subterms in braces, or nothing
-  pub data ArePatternSubs : List RawPatternBound → List Word → List Word → Type 0 where
-    no_subs : (ks : List RawPatternBound) (ts rest : List Word) → ks ≡ [] → No (IsMark mark.OpenBrace) ts → rest ≡ ts → ArePatternSubs ks ts rest
-    some_subs : (ks : List RawPatternBound) (ts rest : List Word) (us : List Word) → IsMark mark.OpenBrace ts us → ArePatternBounds ks us rest → ArePatternSubs ks ts rest
+-- an operator, of its name, its parameters and its subterms
+abbrev pub raw_operator : RawName × (List RawParamPat × List RawPatternBound) → RawPattern
+raw_operator (n, (ps, ks)) = Op n.name ps ks n.at
 
-  -- the subterms one after the other, and then the end of their list
-  pub data ArePatternBounds : List RawPatternBound → List Word → List Word → Type 0 where
-    last_bound : (ks : List RawPatternBound) (ts rest : List Word) (k : RawPatternBound) (us : List Word) → ks ≡ k ∷ [] → IsPatternBound k ts us → IsMark mark.CloseBrace us rest → ArePatternBounds ks ts rest
-    more_bounds : (ks : List RawPatternBound) (ts rest : List Word) (k : RawPatternBound) (others : List RawPatternBound) (us vs : List Word) → ks ≡ k ∷ others → IsPatternBound k ts us → IsMark mark.Semicolon us vs → ArePatternBounds others vs rest → ArePatternBounds ks ts rest
+-- a subterm, of its binders and its body
+abbrev pub raw_bound : List RawName × RawPattern → RawPatternBound
+raw_bound p = record { binders = p.0; body = p.1 }
 
-  -- binders where they begin, and a pattern
-  pub data IsPatternBound : RawPatternBound → List Word → List Word → Type 0 where
-    bound : (k : RawPatternBound) (ts rest : List Word) (bs : List RawName) (x : RawPattern) (us : List Word) → k ≡ record { binders = bs; body = x } → AreBinders bs ts us → IsPattern x us rest → IsPatternBound k ts rest
+-- pat (; pat)* ]
+abbrev pub args_by : Grammar Word RawPattern → Grammar Word (List RawPattern)
+args_by g = row g (is_mark mark.Semicolon) (is_mark mark.CloseBracket)
 
-mutual
-  -- a reading of a pattern ends at the first of these words
-  pub data StuckPattern : List Word → List Word → Type 0 where
-    no_pattern : (ts rest : List Word) → None_of IsVariable ts → None_of IsCapVar ts → None_of IsName ts → rest ≡ ts → StuckPattern ts rest
-    in_contexts : (ts rest : List Word) (n : Sym) (us : List Word) → IsCapVar n ts us → StuckContexts us rest → StuckPattern ts rest
-    in_arguments : (ts rest : List Word) (n : Sym) (cs : List RawName) (us vs : List Word) → IsCapVar n ts us → AreContexts cs us vs → StuckArguments vs rest → StuckPattern ts rest
-    in_params : (ts rest : List Word) (n : Sym) (us : List Word) → IsName n ts us → StuckParamPats us rest → StuckPattern ts rest
-    in_subs : (ts rest : List Word) (n : Sym) (ps : List RawParamPat) (us vs : List Word) → IsName n ts us → AreParamPats ps us vs → StuckPatternSubs vs rest → StuckPattern ts rest
+-- [ pat (; pat)* ], or nothing
+abbrev pub arguments_by : Grammar Word RawPattern → Grammar Word (List RawPattern)
+arguments_by g = optional (is_mark mark.OpenBracket) [] (args_by g)
 
-  -- a reading of arguments in brackets is stuck at the first of these words
-  pub data StuckArguments : List Word → List Word → Type 0 where
-    in_brackets : (ts rest : List Word) (us : List Word) → IsMark mark.OpenBracket ts us → StuckArgs us rest → StuckArguments ts rest
+-- binders where they begin, and a pattern
+abbrev pub pattern_bound_by : Grammar Word RawPattern → Grammar Word RawPatternBound
+pattern_bound_by g = made raw_bound (both binders g)
 
-  -- a reading of arguments one after the other is stuck at the first of these words
-  pub data StuckArgs : List Word → List Word → Type 0 where
-    in_arg : (ts rest : List Word) → StuckPattern ts rest → StuckArgs ts rest
-    behind_arg : (ts rest : List Word) (x : RawPattern) → IsPattern x ts rest → No (IsMark mark.CloseBracket) rest → No (IsMark mark.Semicolon) rest → StuckArgs ts rest
-    in_other_args : (ts rest : List Word) (x : RawPattern) (us vs : List Word) → IsPattern x ts us → IsMark mark.Semicolon us vs → StuckArgs vs rest → StuckArgs ts rest
+-- pbound (; pbound)* }
+abbrev pub pattern_bounds_by : Grammar Word RawPattern → Grammar Word (List RawPatternBound)
+pattern_bounds_by g = row (pattern_bound_by g) (is_mark mark.Semicolon) (is_mark mark.CloseBrace)
 
-  -- a reading of subterms in braces is stuck at the first of these words
-  pub data StuckPatternSubs : List Word → List Word → Type 0 where
-    in_braces : (ts rest : List Word) (us : List Word) → IsMark mark.OpenBrace ts us → StuckPatternBounds us rest → StuckPatternSubs ts rest
+-- { pbound (; pbound)* }, or nothing
+abbrev pub pattern_subs_by : Grammar Word RawPattern → Grammar Word (List RawPatternBound)
+pattern_subs_by g = optional (is_mark mark.OpenBrace) [] (pattern_bounds_by g)
 
-  -- a reading of subterms one after the other is stuck at the first of these words
-  pub data StuckPatternBounds : List Word → List Word → Type 0 where
-    in_bound : (ts rest : List Word) → StuckPatternBound ts rest → StuckPatternBounds ts rest
-    behind_bound : (ts rest : List Word) (k : RawPatternBound) → IsPatternBound k ts rest → No (IsMark mark.CloseBrace) rest → No (IsMark mark.Semicolon) rest → StuckPatternBounds ts rest
-    in_other_bounds : (ts rest : List Word) (k : RawPatternBound) (us vs : List Word) → IsPatternBound k ts us → IsMark mark.Semicolon us vs → StuckPatternBounds vs rest → StuckPatternBounds ts rest
+-- CapVar ctxs? args?
+abbrev pub second_order_by : Grammar Word RawPattern → Grammar Word RawPattern
+second_order_by g = made raw_meta (both a_capital_variable (both contexts (arguments_by g)))
 
-  -- a reading of a subterm is stuck at the first of these words
-  pub data StuckPatternBound : List Word → List Word → Type 0 where
-    in_binders : (ts rest : List Word) → StuckBinders ts rest → StuckPatternBound ts rest
-    in_body : (ts rest : List Word) (bs : List RawName) (us : List Word) → AreBinders bs ts us → StuckPattern us rest → StuckPatternBound ts rest
+-- Small pparams? psubs?
+abbrev pub pattern_operator_by : Grammar Word RawPattern → Grammar Word RawPattern
+pattern_operator_by g = made raw_operator (both a_name (both param_pats (pattern_subs_by g)))
+
+-- the three forms of a pattern, over a grammar of patterns
+abbrev pub pattern_by : Grammar Word RawPattern → Grammar Word RawPattern
+pattern_by g = or_word pattern_variable_at (choose (stands capital_variable_at) (second_order_by g) (pattern_operator_by g))
+
+-- a variable, a second-order variable with its contexts and arguments, or a name with its parameters and subterms
+unfoldable pub pattern : Grammar Word RawPattern
+pattern = itself pattern_by
+
+-- ## Schemata and rules
 
 -- Cap ctxs? args? >
-abbrev pub IsContext : RawName × (List RawName × List RawPattern) → List Word → List Word → Type 0
-IsContext = Both IsCapAt (Both AreContexts (EndedPart AreArguments (IsMark mark.Greater)))
+abbrev pub context : Grammar Word (RawName × (List RawName × List RawPattern))
+context = both a_capital (both contexts (ended (arguments_by pattern) (is_mark mark.Greater)))
 
--- a reading of a context after its < is stuck at the first of these words
-abbrev pub StuckContext : List Word → List Word → Type 0
-StuckContext = StuckBoth IsCapAt (Lacks IsCapAt) (StuckBoth AreContexts StuckContexts (StuckEnded AreArguments StuckArguments (IsMark mark.Greater)))
+-- a context as an item, of the place of its < and of what is behind that
+abbrev pub raw_context : ℕ × (RawName × (List RawName × List RawPattern)) → RawItem
+raw_context (at, (n, (cs, xs))) = Ctx n cs xs at
+
+-- a hypothesis, of its name and its pattern
+abbrev pub raw_hypothesis : RawName × RawPattern → RawItem
+raw_hypothesis p = Hyp p.0.name p.1 p.0.at
+
+-- a schema, of its place, its items and its conclusion
+abbrev pub raw_schema : ℕ × (List RawItem × RawPattern) → RawSchema
+raw_schema (at, (is, p)) = record { items = is; concl = p; at = at }
+
+-- a rule, of its name, its premises and its conclusion
+abbrev pub raw_rule : RawName × (List RawSchema × RawSchema) → RawRule
+raw_rule (n, (ps, c)) = record { name = n; premises = ps; concl = c }
 
 -- Small : pat
-abbrev pub IsHypothesis : Sym × RawPattern → List Word → List Word → Type 0
-IsHypothesis = Both IsName (After (IsMark mark.Colon) IsPattern)
+abbrev pub hypothesis : Grammar Word RawItem
+hypothesis = made raw_hypothesis (both a_name (after (is_mark mark.Colon) pattern))
 
--- a reading of a hypothesis is stuck at the first of these words
-abbrev pub StuckHypothesis : List Word → List Word → Type 0
-StuckHypothesis = StuckBoth IsName (Lacks IsName) (StuckAfter (IsMark mark.Colon) StuckPattern)
+-- < and a context
+abbrev pub context_item : Grammar Word RawItem
+context_item = made raw_context (with_place (after (is_mark mark.Less) context))
 
--- a context after <, or a hypothesis
-abbrev pub IsItem : RawItem → List Word → List Word → Type 0
-IsItem (item.Ctx name ctxs args left) ts rest = After (IsMark mark.Less) IsContext (name, (ctxs, args)) ts rest × (left ≡ length ts)
-IsItem (item.Hyp name pattern left) ts rest = IsHypothesis (name, pattern) ts rest × (left ≡ length ts)
-
--- a reading of an item is stuck at the first of these words
-abbrev pub StuckItem : List Word → List Word → Type 0
-StuckItem ts rest = StuckOptional (IsMark mark.Less) StuckContext ts rest ⊎ (No (IsMark mark.Less) ts × StuckHypothesis ts rest)
+-- a context, or a hypothesis
+abbrev pub item : Grammar Word RawItem
+item = choose (fronted (is_mark mark.Less)) context_item hypothesis
 
 -- item (; item)* >-, or >- at once
-abbrev pub AreItems : List RawItem → List Word → List Word → Type 0
-AreItems = Listed IsItem (IsMark mark.Semicolon) (IsMark mark.Turnstile)
-
--- a reading of items is stuck at the first of these words
-abbrev pub StuckItems : List Word → List Word → Type 0
-StuckItems = StuckListed IsItem StuckItem (IsMark mark.Semicolon) (IsMark mark.Turnstile)
+abbrev pub items : Grammar Word (List RawItem)
+items = listed item (is_mark mark.Semicolon) (is_mark mark.Turnstile)
 
 -- items, >- and the conclusion
-abbrev pub IsSchema : RawSchema → List Word → List Word → Type 0
-IsSchema s ts rest = Both AreItems IsPattern (s.items, s.concl) ts rest × (s.left ≡ length ts)
-
--- a reading of a schema is stuck at the first of these words
-abbrev pub StuckSchema : List Word → List Word → Type 0
-StuckSchema = StuckBoth AreItems StuckItems StuckPattern
+abbrev pub schema : Grammar Word RawSchema
+schema = made raw_schema (with_place (both items pattern))
 
 -- schema (, schema)* ==>, or ==> at once
-abbrev pub ArePremises : List RawSchema → List Word → List Word → Type 0
-ArePremises = Listed IsSchema (IsMark mark.Comma) (IsMark mark.Yields)
-
--- a reading of premises is stuck at the first of these words
-abbrev pub StuckPremises : List Word → List Word → Type 0
-StuckPremises = StuckListed IsSchema StuckSchema (IsMark mark.Comma) (IsMark mark.Yields)
+abbrev pub premises : Grammar Word (List RawSchema)
+premises = listed schema (is_mark mark.Comma) (is_mark mark.Yields)
 
 -- rule NAME : premises ==> conclusion
-abbrev pub IsRawRule : RawRule → List Word → List Word → Type 0
-IsRawRule r = Both (IsNameBehind keyword.Rule) (After (IsMark mark.Colon) (Both ArePremises IsSchema)) (r.name, (r.premises, r.concl))
-
--- a reading of a rule is stuck at the first of these words
-abbrev pub StuckRule : List Word → List Word → Type 0
-StuckRule = StuckBoth (IsNameBehind keyword.Rule) (StuckNameBehind keyword.Rule) (StuckAfter (IsMark mark.Colon) (StuckBoth ArePremises StuckPremises StuckSchema))
+abbrev pub rule : Grammar Word RawRule
+rule = made raw_rule (both (name_behind keyword.Rule) (after (is_mark mark.Colon) (both premises schema)))
 
 -- the rules, and no word after them
+abbrev pub theory : Grammar Word (List RawRule)
+theory = many rule
+
+-- ## As relations
+
+-- the pattern stands at the front of the words, and these are left
+abbrev pub IsPattern : RawPattern → List Word → List Word → Type 0
+IsPattern = Is pattern
+
+-- a reading of a pattern is stuck at the first of these words
+abbrev pub StuckPattern : List Word → List Word → Type 0
+StuckPattern = Stuck pattern
+
+-- the rules are all of the words, if no word is left
 abbrev pub IsTheory : List RawRule → List Word → List Word → Type 0
-IsTheory = Many IsRawRule
+IsTheory = Is theory
 
 -- a reading of rules is stuck at the first of these words
 abbrev pub StuckTheory : List Word → List Word → Type 0
-StuckTheory = StuckMany IsRawRule StuckRule
+StuckTheory = Stuck theory

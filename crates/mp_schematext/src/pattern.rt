@@ -1,15 +1,15 @@
-ghost use Rattle.std.specs.Prelude.{◌<◌, ◌≤◌, length, IfOk};
-ghost use Rattle.mp_words.specs.Parts.{IsCapAt, Lacks, Reads};
-ghost use Rattle.mp_schematext.specs.Grammar.{IsParamPat, StuckParamPat, AreParamPats, StuckParamPats, AreContexts, StuckContexts, IsPattern, StuckPattern, AreArgs, StuckArgs, AreArguments, StuckArguments, ArePatternSubs, StuckPatternSubs, ArePatternBounds, StuckPatternBounds, IsPatternBound, StuckPatternBound};
+ghost use Rattle.std.specs.Prelude.{◌≡◌, ◌<◌, ◌≤◌, length, drop, IfOk, MatchOption, None, Some};
+ghost use Rattle.mp_words.specs.Grammars.{taken};
+ghost use Rattle.mp_words.specs.Fronts.{a_capital};
+ghost use Rattle.mp_words.specs.Reading.{Reads};
+ghost use Rattle.mp_schematext.specs.Grammar.{args_by, arguments_by, pattern_bound_by, pattern_bounds_by, contexts, param_pat, param_pats, pattern, pattern_subs_by, pattern_variable_at};
 
 use crate::raw::{RawParamPat, RawPattern, RawPatternBound};
 use mp_logic::List;
-use mp_schema::ParamPat;
-use mp_term::Param;
-use mp_termtext::{parse_binders, variable};
+use mp_termtext::{param_at, parse_binders};
 use mp_words::{
-    Mark, RawName, ReadFail, Reader, Word, capital_at, capital_variable, mark, name, separated,
-    stuck,
+    Mark, RawName, ReadFail, Reader, What, Word, capital_at, capital_variable_at, front, mark,
+    name_at, separated, stuck,
 };
 use std::alloc::Global;
 
@@ -19,9 +19,7 @@ pub(crate) struct Context;
 impl Reader for Context {
     type Raw = RawName;
 
-    ghost is = { IsCapAt };
-
-    ghost stops = { Lacks IsCapAt };
+    ghost grammar = { a_capital };
 
     /// Reads a name with a capital letter.
     fn read(_alloc: Global, words: &[Word]) -> Result<(RawName, &[Word]), ReadFail> {
@@ -35,39 +33,27 @@ impl Reader for Context {
 impl Reader for RawParamPat {
     type Raw = RawParamPat;
 
-    ghost is = { IsParamPat };
-
-    ghost stops = { StuckParamPat };
+    ghost grammar = { param_pat };
 
     /// Reads a number, a string, or `@` and a name.
     fn read(_alloc: Global, words: &[Word]) -> Result<(RawParamPat, &[Word]), ReadFail> {
-        let left = words.len() as u64;
-        if let Some(at) = mark(words, Mark::At) {
-            return match name(at) {
-                Some((name, rest)) => {
-                    let value = ParamPat::Hole(name);
-                    Ok((RawParamPat { value, left }, rest))
-                }
-                None => Err(stuck(at)),
+        let at = front(words);
+        if let Some(behind) = mark(words, Mark::At) {
+            return match name_at(behind) {
+                Some((name, rest)) => Ok((RawParamPat::Hole { name, at }, rest)),
+                None => Err(stuck(behind)),
             };
         }
-        match words.split_first() {
-            Some((Word::Num(number), rest)) => {
-                let value = ParamPat::Lit(Param::Num(*number));
-                Ok((RawParamPat { value, left }, rest))
-            }
-            Some((Word::Str(text), rest)) => {
-                let value = ParamPat::Lit(Param::Str(*text));
-                Ok((RawParamPat { value, left }, rest))
-            }
-            _ => Err(stuck(words)),
+        match param_at(words) {
+            Some((param, rest)) => Ok((RawParamPat::Lit(param), rest)),
+            None => Err(stuck(words)),
         }
     }
 }
 
 /// Reads parameters between brackets; there are none where no bracket opens.
 fn parse_param_pats(alloc: Global, words: &[Word]) -> Result<(List<RawParamPat>, &[Word]), ReadFail>
-    ensures reads { Reads (λ x. (x.0, x.1.now)) AreParamPats StuckParamPats words.now result }
+    ensures reads { Reads (λ x. (x.0, x.1.now)) param_pats words.now result }
     ensures within { IfOk result (λ x. length x.1.now ≤ length words.now) }
 {
     match mark(words, Mark::OpenBracket) {
@@ -81,12 +67,23 @@ pub(crate) fn parse_contexts(
     alloc: Global,
     words: &[Word],
 ) -> Result<(List<RawName>, &[Word]), ReadFail>
-    ensures reads { Reads (λ x. (x.0, x.1.now)) AreContexts StuckContexts words.now result }
+    ensures reads { Reads (λ x. (x.0, x.1.now)) contexts words.now result }
     ensures within { IfOk result (λ x. length x.1.now ≤ length words.now) }
 {
     match mark(words, Mark::Less) {
         Some(inner) => separated::<Context>(alloc, inner, Mark::Semicolon, Mark::Greater),
         None => Ok((List::new(alloc), words)),
+    }
+}
+
+/// The variable at the front, and what is behind it.
+fn variable(words: &[Word]) -> Option<(RawPattern, &[Word])>
+    ensures { MatchOption result (taken pattern_variable_at words.now ≡ None) (λ p. (taken pattern_variable_at words.now ≡ Some p.0) × (p.1.now ≡ drop 1 words.now)) }
+{
+    let (word, rest) = words.split_first()?;
+    match word.what {
+        What::SmallVar { name, .. } => Some((RawPattern::Var { name, at: word.at }, rest)),
+        _ => None,
     }
 }
 
@@ -96,14 +93,13 @@ pub(crate) fn parse_pattern(
     alloc: Global,
     words: &[Word],
 ) -> Result<(RawPattern, &[Word]), ReadFail>
-    ensures reads { Reads (λ x. (x.0, x.1.now)) IsPattern StuckPattern words.now result }
+    ensures reads { Reads (λ x. (x.0, x.1.now)) pattern words.now result }
     ensures shorter { IfOk result (λ x. length x.1.now < length words.now) }
 {
-    let left = words.len() as u64;
-    if let Some((name, _, rest)) = variable(words) {
-        return Ok((RawPattern::Var { name, left }, rest));
+    if let Some(read) = variable(words) {
+        return Ok(read);
     }
-    if let Some((name, rest)) = capital_variable(words) {
+    if let Some((RawName { name, at }, rest)) = capital_variable_at(words) {
         let (ctxs, rest) = match parse_contexts(alloc, rest) {
             Ok(read) => read,
             Err(fail) => return Err(fail),
@@ -114,14 +110,14 @@ pub(crate) fn parse_pattern(
                     name,
                     ctxs,
                     args,
-                    left,
+                    at,
                 },
                 rest,
             )),
             Err(fail) => Err(fail),
         };
     }
-    let Some((name, rest)) = name(words) else {
+    let Some((RawName { name, at }, rest)) = name_at(words) else {
         return Err(stuck(words));
     };
     let (params, rest) = match parse_param_pats(alloc, rest) {
@@ -134,7 +130,7 @@ pub(crate) fn parse_pattern(
                 name,
                 params,
                 subs,
-                left,
+                at,
             },
             rest,
         )),
@@ -148,7 +144,7 @@ pub(crate) fn parse_arguments(
     alloc: Global,
     words: &[Word],
 ) -> Result<(List<RawPattern>, &[Word]), ReadFail>
-    ensures reads { Reads (λ x. (x.0, x.1.now)) AreArguments StuckArguments words.now result }
+    ensures reads { Reads (λ x. (x.0, x.1.now)) (arguments_by pattern) words.now result }
     ensures within { IfOk result (λ x. length x.1.now ≤ length words.now) }
 {
     match mark(words, Mark::OpenBracket) {
@@ -160,7 +156,7 @@ pub(crate) fn parse_arguments(
 /// Reads arguments up to the end of their list.
 #[cycle(parsing)]
 fn parse_args(alloc: Global, words: &[Word]) -> Result<(List<RawPattern>, &[Word]), ReadFail>
-    ensures reads { Reads (λ x. (x.0, x.1.now)) AreArgs StuckArgs words.now result }
+    ensures reads { Reads (λ x. (x.0, x.1.now)) (args_by pattern) words.now result }
     ensures shorter { IfOk result (λ x. length x.1.now < length words.now) }
 {
     let mut args = List::new(alloc);
@@ -187,7 +183,7 @@ fn parse_args(alloc: Global, words: &[Word]) -> Result<(List<RawPattern>, &[Word
 /// Reads subterms between braces; there are none where no brace opens.
 #[cycle(parsing)]
 fn parse_subs(alloc: Global, words: &[Word]) -> Result<(List<RawPatternBound>, &[Word]), ReadFail>
-    ensures reads { Reads (λ x. (x.0, x.1.now)) ArePatternSubs StuckPatternSubs words.now result }
+    ensures reads { Reads (λ x. (x.0, x.1.now)) (pattern_subs_by pattern) words.now result }
     ensures within { IfOk result (λ x. length x.1.now ≤ length words.now) }
 {
     match mark(words, Mark::OpenBrace) {
@@ -199,7 +195,7 @@ fn parse_subs(alloc: Global, words: &[Word]) -> Result<(List<RawPatternBound>, &
 /// Reads subterms up to the end of their list.
 #[cycle(parsing)]
 fn parse_bounds(alloc: Global, words: &[Word]) -> Result<(List<RawPatternBound>, &[Word]), ReadFail>
-    ensures reads { Reads (λ x. (x.0, x.1.now)) ArePatternBounds StuckPatternBounds words.now result }
+    ensures reads { Reads (λ x. (x.0, x.1.now)) (pattern_bounds_by pattern) words.now result }
     ensures shorter { IfOk result (λ x. length x.1.now < length words.now) }
 {
     let mut subs = List::new(alloc);
@@ -226,7 +222,7 @@ fn parse_bounds(alloc: Global, words: &[Word]) -> Result<(List<RawPatternBound>,
 /// Reads a subterm with its binders, if any.
 #[cycle(parsing)]
 fn parse_bound(alloc: Global, words: &[Word]) -> Result<(RawPatternBound, &[Word]), ReadFail>
-    ensures reads { Reads (λ x. (x.0, x.1.now)) IsPatternBound StuckPatternBound words.now result }
+    ensures reads { Reads (λ x. (x.0, x.1.now)) (pattern_bound_by pattern) words.now result }
     ensures shorter { IfOk result (λ x. length x.1.now < length words.now) }
 {
     let (binders, rest) = match parse_binders(alloc, words) {

@@ -1,13 +1,14 @@
 use mp_logic::{List, Sym};
-use mp_schema::ParamPat;
+use mp_termtext::RawParam;
 use mp_words::RawName;
 
-/// A parameter of a pattern as it is written, and how many words are left where it begins. The name of a hole is
-/// its second word.
+/// A parameter of a pattern as it is written.
 #[derive(Clone, Copy, Debug, PartialEq, Eq)]
-pub struct RawParamPat {
-    pub value: ParamPat,
-    pub left: u64,
+pub enum RawParamPat {
+    /// A number or a string.
+    Lit(RawParam),
+    /// The hole of this name, and the first byte of the `@` before it.
+    Hole { name: RawName, at: u32 },
 }
 
 /// A subterm of a pattern as it is written, behind its binders.
@@ -18,31 +19,30 @@ pub struct RawPatternBound {
     pub body: RawPattern,
 }
 
-/// A pattern as it is written, with names in place of levels. Each node knows how many words are left where it
-/// begins.
+/// A pattern as it is written, with names in place of levels. Each node knows its first byte.
 #[cycle(raw)]
 #[derive(Drop)]
 pub enum RawPattern {
     Var {
         name: Sym,
-        left: u64,
+        at: u32,
     },
     Op {
         name: Sym,
         params: List<RawParamPat>,
         subs: List<RawPatternBound>,
-        left: u64,
+        at: u32,
     },
     /// A second-order variable with its list of contexts and its arguments.
     Meta {
         name: Sym,
         ctxs: List<RawName>,
         args: List<RawPattern>,
-        left: u64,
+        at: u32,
     },
 }
 
-/// An item of a schema as it is written, and how many words are left where it begins.
+/// An item of a schema as it is written, and its first byte.
 #[derive(Drop)]
 pub enum RawItem {
     /// A context with its list of contexts and its arguments.
@@ -50,22 +50,22 @@ pub enum RawItem {
         name: RawName,
         ctxs: List<RawName>,
         args: List<RawPattern>,
-        left: u64,
+        at: u32,
     },
     /// A hypothesis with its name, which is its first word.
     Hyp {
         name: Sym,
         pattern: RawPattern,
-        left: u64,
+        at: u32,
     },
 }
 
-/// A schema as it is written, and how many words are left where it begins.
+/// A schema as it is written, and its first byte.
 #[derive(Drop)]
 pub struct RawSchema {
     pub items: List<RawItem>,
     pub concl: RawPattern,
-    pub left: u64,
+    pub at: u32,
 }
 
 /// A rule as it is written.

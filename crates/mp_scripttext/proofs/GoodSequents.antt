@@ -18,7 +18,7 @@ use Rattle.mp_termtext.specs.Statics.{faults_of, hyp_names, hyps_faults, raw_seq
 use Rattle.mp_termtext.specs.Values.{hyps_value, sequent_value, value_of}
 use Rattle.mp_words.proofs.NoFaults.{nil_parts, no_fault}
 use Rattle.mp_termtext.proofs.Faultless.{sequent_faultless, length-hyp_names}
-use Rattle.mp_scripttext.proofs.GoodTerms.{Fits, term_fits}
+use Rattle.mp_steptext.proofs.GoodTerms.{Fits, term_fits}
 
 no_more : (m n : ℕ) → nat_lt n m ≡ false → m ≤ n
 no_more m n h = grind (arith, nat_tests, h)
@@ -68,9 +68,9 @@ sequent_good s h =
     let few = parts.0 in
     let hyps = hyps_fit s.hyps [] parts.1 in
     let concl = closed_fits s.concl (hyp_names s.hyps) parts.2 in
-    let before = too_many (λ h. h.left) 200 s.hyps ++ hyps_faults s.hyps [] ++ faults_of 0 s.concl (hyp_names s.hyps) 1 in
-    let big = (nil_parts before (fault_if (nat_lt 20000 (raw_sequent_size_of s)) s.left why.TooBig) h).1 in
-    let small = no_more (raw_sequent_size_of s) 20000 (no_fault (nat_lt 20000 (raw_sequent_size_of s)) s.left why.TooBig big) in
+    let before = too_many (λ h. h.at) 200 s.hyps ++ hyps_faults s.hyps [] ++ faults_of 0 s.concl (hyp_names s.hyps) 1 in
+    let big = (nil_parts before (fault_if (nat_lt 20000 (raw_sequent_size_of s)) s.at why.TooBig) h).1 in
+    let small = no_more (raw_sequent_size_of s) 20000 (no_fault (nat_lt 20000 (raw_sequent_size_of s)) s.at why.TooBig big) in
     let count : length (hyps_value s.hyps []) ≡ length s.hyps = length-hyps_value s.hyps [] in
     let size : sequent_size_of (sequent_value s) ≡ raw_sequent_size_of s = (λ i. hyps.size i + concl.size i) in
     let scope : length (hyp_names s.hyps) ≡ length (hyps_value s.hyps []) = length-hyp_names s.hyps ∙ sym count in

@@ -2,8 +2,8 @@
 use Rattle.std.proofs.Common.{◌≡◌, ◌+◌, ◌<◌, ℕ, List, [], ◌∷◌, max, map, refl, ap, sym, ◌∙◌, drop, length, get_or, arith}
 use Rattle.mp_logic.specs.Trees.{counted}
 use Rattle.mp_words.proofs.Walks.{left_cons}
-use Rattle.mp_scripttext.specs.declared.raw.RawStrategy.{RawStrategy}
-use Rattle.mp_scripttext.specs.Strategies.{Strategy, strategy_of, then_all, then_strategy, whole_of}
+use Rattle.mp_scripttext.specs.declared.raw.RawAtom.{RawAtom}
+use Rattle.mp_scripttext.specs.Strategies.{Strategy, atom_strategy, then_all, then_strategy, chain_strategy}
 
 -- the nodes of a strategy of so many nodes and further ones
 abbrev pub nodes_all : ℕ → List Strategy → ℕ
@@ -32,23 +32,23 @@ depth_same : (m n : ℕ) (bs : List Strategy) → counted m ≡ counted n → co
 depth_same m n [] e = e
 depth_same m n (b ∷ bs) e = depth_same (1 + max m b.depth) (1 + max n b.depth) bs (omega (arith, e))
 
-module _ (raws : List RawStrategy) (first : RawStrategy) (more : List RawStrategy) (is : raws ≡ first ∷ more) where
-  pub nodes_begin : (n : ℕ) → n ≡ counted (strategy_of first).nodes → counted (nodes_all n (map strategy_of more)) ≡ counted (whole_of raws).nodes
+module _ (raws : List RawAtom) (first : RawAtom) (more : List RawAtom) (is : raws ≡ first ∷ more) where
+  pub nodes_begin : (n : ℕ) → n ≡ counted (atom_strategy first).nodes → counted (nodes_all n (map atom_strategy more)) ≡ counted (chain_strategy raws).nodes
   nodes_begin n e =
-      nodes_same n (strategy_of first).nodes (map strategy_of more) (omega (arith, e)) ∙ ap counted (sym (nodes_are (strategy_of first) (map strategy_of more))) ∙ ap (λ ss. counted (whole_of ss).nodes) (sym is)
+      nodes_same n (atom_strategy first).nodes (map atom_strategy more) (omega (arith, e)) ∙ ap counted (sym (nodes_are (atom_strategy first) (map atom_strategy more))) ∙ ap (λ ss. counted (chain_strategy ss).nodes) (sym is)
 
-  pub depth_begins : (d : ℕ) → d ≡ counted (strategy_of first).depth → counted (depth_all d (map strategy_of more)) ≡ counted (whole_of raws).depth
+  pub depth_begins : (d : ℕ) → d ≡ counted (atom_strategy first).depth → counted (depth_all d (map atom_strategy more)) ≡ counted (chain_strategy raws).depth
   depth_begins d e =
-      depth_same d (strategy_of first).depth (map strategy_of more) (omega (arith, e)) ∙ ap counted (sym (depth_is (strategy_of first) (map strategy_of more))) ∙ ap (λ ss. counted (whole_of ss).depth) (sym is)
+      depth_same d (atom_strategy first).depth (map atom_strategy more) (omega (arith, e)) ∙ ap counted (sym (depth_is (atom_strategy first) (map atom_strategy more))) ∙ ap (λ ss. counted (chain_strategy ss).depth) (sym is)
 
 -- one strategy more
-module _ (more : List RawStrategy) (i : ℕ) (raw : RawStrategy) (lt : i < length more) (is : raw ≡ get_or more i raw) (now other next whole : ℕ) where
-  pub nodes_next : other ≡ counted (strategy_of raw).nodes → next ≡ counted (1 + now + other)
-      → counted (nodes_all now (map strategy_of (drop i more))) ≡ whole → counted (nodes_all next (map strategy_of (drop (i + 1) more))) ≡ whole
+module _ (more : List RawAtom) (i : ℕ) (raw : RawAtom) (lt : i < length more) (is : raw ≡ get_or more i raw) (now other next whole : ℕ) where
+  pub nodes_next : other ≡ counted (atom_strategy raw).nodes → next ≡ counted (1 + now + other)
+      → counted (nodes_all now (map atom_strategy (drop i more))) ≡ whole → counted (nodes_all next (map atom_strategy (drop (i + 1) more))) ≡ whole
   nodes_next e f prev =
-      nodes_same next (1 + now + (strategy_of raw).nodes) (map strategy_of (drop (i + 1) more)) (omega (arith, e, f)) ∙ ap (λ ss. counted (nodes_all now (map strategy_of ss))) (sym (left_cons more i raw lt is)) ∙ prev
+      nodes_same next (1 + now + (atom_strategy raw).nodes) (map atom_strategy (drop (i + 1) more)) (omega (arith, e, f)) ∙ ap (λ ss. counted (nodes_all now (map atom_strategy ss))) (sym (left_cons more i raw lt is)) ∙ prev
 
-  pub depth_next : other ≡ counted (strategy_of raw).depth → next ≡ counted (1 + max now other)
-      → counted (depth_all now (map strategy_of (drop i more))) ≡ whole → counted (depth_all next (map strategy_of (drop (i + 1) more))) ≡ whole
+  pub depth_next : other ≡ counted (atom_strategy raw).depth → next ≡ counted (1 + max now other)
+      → counted (depth_all now (map atom_strategy (drop i more))) ≡ whole → counted (depth_all next (map atom_strategy (drop (i + 1) more))) ≡ whole
   depth_next e f prev =
-      depth_same next (1 + max now (strategy_of raw).depth) (map strategy_of (drop (i + 1) more)) (omega (arith, e, f)) ∙ ap (λ ss. counted (depth_all now (map strategy_of ss))) (sym (left_cons more i raw lt is)) ∙ prev
+      depth_same next (1 + max now (atom_strategy raw).depth) (map atom_strategy (drop (i + 1) more)) (omega (arith, e, f)) ∙ ap (λ ss. counted (depth_all now (map atom_strategy ss))) (sym (left_cons more i raw lt is)) ∙ prev

@@ -7,11 +7,12 @@ use Rattle.std.proofs.lemmas.Bool.Decides.{nat_tests}
 use Rattle.std.proofs.lemmas.List.Folds.{list_all-append}
 use Rattle.mp_strategy.specs.declared.tactic.Tac.{Tac}
 use Rattle.mp_strategy.specs.Fits.{fits_of, rows_fit, depths, depth_by, is_behind}
-use Rattle.mp_scripttext.specs.declared.raw.RawStep.{RawStep}
-use Rattle.mp_scripttext.specs.declared.raw.RawStrategy.{RawStrategy, Id, Step, Chain}
-use Rattle.mp_scripttext.specs.Strategies.{Strategy, chain_of, id_alone, step_alone, strategy_of, then_all, then_strategy, then_row, whole_of}
-use Rattle.mp_scripttext.proofs.StrategyInduction.{each_strategy, all_strategies}
-use Rattle.mp_scripttext.proofs.StrategyLayers.{strategy-Id, strategy-Step, strategy-Chain}
+use Rattle.mp_termtext.specs.declared.raw.RawBound.{RawBound}
+use Rattle.mp_steptext.specs.declared.raw.RawStep.{RawStep}
+use Rattle.mp_scripttext.specs.declared.raw.RawAtom.{RawAtom, Id, Step, Chain}
+use Rattle.mp_scripttext.specs.Strategies.{Strategy, chain_of, id_alone, step_alone, atom_strategy, then_all, then_strategy, then_row, chain_strategy}
+use Rattle.mp_scripttext.proofs.AtomInduction.{each_atom, all_atoms}
+use Rattle.mp_scripttext.proofs.AtomLayers.{atom-Id, atom-Step, atom-Chain}
 
 abbrev at_most : ℕ → ℕ → Bool
 at_most most depth = nat_le depth most
@@ -46,7 +47,7 @@ id_table = record {
   depths = λ node step rest. refl;
 }
 
-pub step_table : (s : RawStep) → IsTable (step_alone s)
+pub step_table : (s : RawStep RawBound) → IsTable (step_alone s)
 step_table s = record {
   some = omega arith;
   few = omega arith;
@@ -173,27 +174,27 @@ chain_table : (ss : List Strategy) → AreTables ss → IsTable (chain_of ss)
 chain_table [] ts = id_table
 chain_table (s ∷ ss) ts = then_all_table s ss ts.0 ts.1
 
-abbrev Written : RawStrategy → Type 0
-Written s = IsTable (strategy_of s)
+abbrev Written : RawAtom → Type 0
+Written s = IsTable (atom_strategy s)
 
-written : (ss : List RawStrategy) → AllByRecursion Written ss → AreTables (map strategy_of ss)
+written : (ss : List RawAtom) → AllByRecursion Written ss → AreTables (map atom_strategy ss)
 written [] h = tt
 written (s ∷ ss) h = (h.0, written ss h.1)
 
 id_written : Written Id
-id_written = subst IsTable (sym strategy-Id) id_table
+id_written = subst IsTable (sym atom-Id) id_table
 
-step_written : (s : RawStep) → Written (Step s)
-step_written s = subst IsTable (sym (strategy-Step s)) (step_table s)
+step_written : (s : RawStep RawBound) → Written (Step s)
+step_written s = subst IsTable (sym (atom-Step s)) (step_table s)
 
-chain_written : (ss : List RawStrategy) → AllByRecursion Written ss → Written (Chain ss)
-chain_written ss h = subst IsTable (sym (strategy-Chain ss)) (chain_table (map strategy_of ss) (written ss h))
+chain_written : (ss : List RawAtom) → AllByRecursion Written ss → Written (Chain ss)
+chain_written ss h = subst IsTable (sym (atom-Chain ss)) (chain_table (map atom_strategy ss) (written ss h))
 
-pub strategy_table : (s : RawStrategy) → IsTable (strategy_of s)
-strategy_table = each_strategy Written id_written step_written chain_written
+pub atom_table : (s : RawAtom) → IsTable (atom_strategy s)
+atom_table = each_atom Written id_written step_written chain_written
 
-pub whole_table : (ss : List RawStrategy) → IsTable (whole_of ss)
-whole_table ss = chain_table (map strategy_of ss) (written ss (all_strategies Written id_written step_written chain_written ss))
+pub strategy_table : (ss : List RawAtom) → IsTable (chain_strategy ss)
+strategy_table ss = chain_table (map atom_strategy ss) (written ss (all_atoms Written id_written step_written chain_written ss))
 
 -- a strategy that is written and neither too great nor too deep fits
 pub table_fits : (s : Strategy) (justs : ℕ) → IsTable s → justs ≡ length s.steps → s.nodes ≤ 4096 → s.depth ≤ 64 → fits_of justs (s.rows 0 0) ≡ true

@@ -1,7 +1,12 @@
--- The words of a script have at most one reading or one place where they are stuck, and not both.
-use Rattle.mp_words.specs.Parts.{OneReading}
-use Rattle.mp_scripttext.specs.Grammar.{IsScript, StuckScript}
+-- What a strategy is, by cases.
+use Rattle.std.specs.Prelude.{◌≡◌, List}
+use Rattle.mp_words.specs.declared.word.Word.{Word}
+use Rattle.mp_words.specs.Grammars.{chain}
+use Rattle.mp_words.specs.declared.word.Keyword.TheVariants as keyword
+use Rattle.mp_words.specs.Fronts.{is_word}
+use Rattle.mp_scripttext.specs.Grammar.{atom, strategy}
 
--- the words of a script have at most one reading or one place where they are stuck, and not both
-abbrev pub OneScript : Type 0
-OneScript = OneReading IsScript StuckScript
+-- at any words a strategy is read, or is stuck, as atoms with `then` between each two are, where an atom in parentheses has a
+-- strategy in them
+abbrev pub StrategyIsAtoms : Type 0
+StrategyIsAtoms = (ts : List Word) → strategy ts ≡ chain atom (is_word keyword.Then) ts

@@ -1,7 +1,6 @@
 pub mod Entries
 pub mod Grammar
 pub mod Laws
-pub mod Names
 pub mod Reading
 pub mod Statics
 pub mod Strategies

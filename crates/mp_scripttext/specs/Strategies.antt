@@ -2,15 +2,16 @@
 use Rattle.std.specs.Prelude.{ℕ, ◌+◌, ◌++◌, max, List, [], ◌∷◌, length, map}
 use Rattle.mp_strategy.specs.declared.tactic.Tac.{Tac}
 use Rattle.mp_strategy.specs.declared.tactic.Tac.TheVariants as tac
-use Rattle.mp_scripttext.specs.declared.raw.RawStep.{RawStep}
-use Rattle.mp_scripttext.specs.declared.raw.RawStrategy.{RawStrategy, RawStrategy-F}
-use Rattle.mp_scripttext.specs.declared.raw.RawStrategy.TheOpen as layer
-use Rattle.mp_scripttext.specs.declared.raw.RawStrategy.TheFolds.{fold-RawStrategy}
+use Rattle.mp_termtext.specs.declared.raw.RawBound.{RawBound}
+use Rattle.mp_steptext.specs.declared.raw.RawStep.{RawStep}
+use Rattle.mp_scripttext.specs.declared.raw.RawAtom.{RawAtom, RawAtom-F}
+use Rattle.mp_scripttext.specs.declared.raw.RawAtom.TheOpen as layer
+use Rattle.mp_scripttext.specs.declared.raw.RawAtom.TheFolds.{fold-RawAtom}
 
 -- a strategy: its steps from left to right, its nodes, its depth, and its rows where its first node and its first step have
 -- these numbers
 pub record Strategy : Type 0 where
-  pub steps : List RawStep
+  pub steps : List (RawStep RawBound)
   pub nodes : ℕ
   pub depth : ℕ
   pub rows : (node step : ℕ) → List Tac
@@ -20,7 +21,7 @@ abbrev pub id_alone : Strategy
 id_alone = record { steps = []; nodes = 1; depth = 1; rows = λ node step. tac.Id ∷ [] }
 
 -- one step: a node of its own
-abbrev pub step_alone : RawStep → Strategy
+abbrev pub step_alone : RawStep RawBound → Strategy
 step_alone s = record { steps = s ∷ []; nodes = 1; depth = 1; rows = λ node step. tac.Step (record { 0 = step }) ∷ [] }
 
 -- the row of a `then` with these numbers of its parts
@@ -47,15 +48,15 @@ chain_of [] = id_alone
 chain_of (a ∷ more) = then_all a more
 
 -- what one level of a written strategy stands for
-abbrev pub strategy_step : RawStrategy-F Strategy → Strategy
-strategy_step layer.Id = id_alone
-strategy_step (layer.Step s) = step_alone s
-strategy_step (layer.Chain ss) = chain_of ss
+abbrev pub atom_step : RawAtom-F Strategy → Strategy
+atom_step layer.Id = id_alone
+atom_step (layer.Step s) = step_alone s
+atom_step (layer.Chain ss) = chain_of ss
 
 -- the strategy that is written
-abbrev pub strategy_of : RawStrategy → Strategy
-strategy_of = fold-RawStrategy Strategy strategy_step
+abbrev pub atom_strategy : RawAtom → Strategy
+atom_strategy = fold-RawAtom Strategy atom_step
 
 -- the whole strategy of a goal
-abbrev pub whole_of : List RawStrategy → Strategy
-whole_of ss = chain_of (map strategy_of ss)
+abbrev pub chain_strategy : List RawAtom → Strategy
+chain_strategy ss = chain_of (map atom_strategy ss)

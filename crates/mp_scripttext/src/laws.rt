@@ -1,14 +1,13 @@
 ghost use Rattle.std.specs.Prelude.{ℕ, List, Ok};
-ghost use Rattle.mp_theory.specs.declared.rule.Rule.{Rule};
-ghost use Rattle.mp_theory.specs.Tables.{AreRules};
+ghost use Rattle.mp_theory.specs.Tables.{IsTheory, Laws};
 ghost use Rattle.mp_scripttext.specs.declared.script.Script.{Script};
 ghost use Rattle.mp_scripttext.specs.Entries.{EachGood};
-ghost use Rattle.mp_scripttext.specs.Laws.{OneScript};
-ghost use Rattle.mp_scripttext.specs.Reading.{OneScriptText, ReadsScript};
+ghost use Rattle.mp_scripttext.specs.Laws.{StrategyIsAtoms};
+ghost use Rattle.mp_scripttext.specs.Reading.{OneScriptText, ReadsScript, SomeScriptText};
 
-/// The words of a script have at most one reading or one place where they are stuck, and not both.
-pub fn one_reading()
-    ensures { OneScript }
+/// What a strategy is, by cases: atoms with `then` between each two.
+pub fn strategy_cases()
+    ensures { StrategyIsAtoms }
 {}
 
 /// In each theory a text has one script or one fault, and not both.
@@ -16,7 +15,12 @@ pub fn one_text()
     ensures { OneScriptText }
 {}
 
+/// In each theory a text has a script or a fault.
+pub fn some_text()
+    ensures { SomeScriptText }
+{}
+
 /// The goals of a script that is read in a theory can be evaluated.
 pub fn read_goals_are_good()
-    ensures { (rules : List Rule) (names later : List (List ℕ)) (source : List ℕ) (script : Script) → AreRules rules → ReadsScript rules names source (Ok script) later → EachGood rules script.entries }
+    ensures { (t : Laws) (names later : List (List ℕ)) (source : List ℕ) (script : Script) → IsTheory t → ReadsScript t names source (Ok script) later → EachGood t script.entries }
 {}

@@ -1,4 +1,5 @@
 ghost use Rattle.std.specs.Prelude.{◌≡◌, ◌≤◌, [], IfOk};
+ghost use Rattle.mp_strategy.specs.declared.limits.TheConstants.{MOST_FUEL};
 ghost use Rattle.mp_words.specs.Ranges.{written_number_faults};
 ghost use Rattle.mp_scripttext.specs.Entries.{EachGood, IsGoodEntry};
 ghost use Rattle.mp_scripttext.specs.Statics.{entry_faults, script_faults};
@@ -19,9 +20,9 @@ const DEFAULT_FUEL: u32 = 200;
 
 /// The fuel that is written.
 fn build_fuel(fuel: Option<RawNumber>) -> u32
-    requires { written_number_faults 0 400 fuel ≡ [] }
+    requires { written_number_faults 0 MOST_FUEL fuel ≡ [] }
     ensures value { result ≡ fuel_of fuel }
-    ensures few { result ≤ 400 }
+    ensures few { result ≤ MOST_FUEL }
 {
     match fuel {
         Some(number) => number.value as u32,

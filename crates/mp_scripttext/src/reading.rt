@@ -9,7 +9,7 @@ use crate::statics::script_fault;
 use crate::syntax::parse_script;
 use mp_names::Names;
 use mp_theory::Theory;
-use mp_words::{TextFail, lex_text};
+use mp_words::{TextFail, lex_text, stopped};
 use std::alloc::Global;
 
 /// Reads a script that is all of the text, in a theory: its goals, in the order of the text. A step may give what its rule
@@ -30,13 +30,13 @@ pub fn read_script(
     ensures grown { Extends names.old names.new }
     ensures few { length names.new ≤ length names.old + length source.now }
 {
-    let text = lex_text(alloc, names, source)?;
-    let raws = match parse_script(alloc, text.words.as_slice()) {
+    let words = lex_text(alloc, names, source)?;
+    let raws = match parse_script(alloc, words.as_slice()) {
         Ok(raws) => raws,
-        Err(fail) => return Err(text.stopped(source, fail)),
+        Err(fail) => return Err(stopped(source, fail)),
     };
     if let Some(fault) = script_fault(alloc, theory, &raws)? {
-        return Err(text.broken(source, fault));
+        return Err(TextFail::Bad(fault));
     }
     let script = build_script(alloc, theory, &raws)?;
     Ok(script)

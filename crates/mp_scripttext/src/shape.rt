@@ -1,8 +1,8 @@
 ghost use Rattle.std.specs.Prelude.{◌≡◌, ◌+◌, max};
 ghost use Rattle.mp_logic.specs.Trees.{counted};
-ghost use Rattle.mp_scripttext.specs.Strategies.{strategy_of, whole_of};
+ghost use Rattle.mp_scripttext.specs.Strategies.{atom_strategy, chain_strategy};
 
-use crate::raw::RawStrategy;
+use crate::raw::RawAtom;
 
 /// How many nodes a strategy has, and how deep it is. Both stop at `2^64 - 1`.
 #[derive(Clone, Copy)]
@@ -11,7 +11,7 @@ pub(crate) struct Shape {
     pub depth: u64,
 }
 
-/// The shape of a strategy that is one node.
+/// The shape of an atom that is one node.
 const ALONE: Shape = Shape { nodes: 1, depth: 1 };
 
 impl Shape {
@@ -27,31 +27,31 @@ impl Shape {
     }
 }
 
-/// The shape of a strategy.
+/// The shape of an atom.
 #[cycle(shape)]
-fn strategy_shape(raw: &RawStrategy) -> Shape
-    ensures nodes { result.nodes ≡ counted (strategy_of raw.now).nodes }
-    ensures depth { result.depth ≡ counted (strategy_of raw.now).depth }
+fn atom_shape(raw: &RawAtom) -> Shape
+    ensures nodes { result.nodes ≡ counted (atom_strategy raw.now).nodes }
+    ensures depth { result.depth ≡ counted (atom_strategy raw.now).depth }
 {
     match raw {
-        RawStrategy::Id => ALONE,
-        RawStrategy::Step(_) => ALONE,
-        RawStrategy::Chain(raws) => whole_shape(raws.as_slice()),
+        RawAtom::Id => ALONE,
+        RawAtom::Step(_) => ALONE,
+        RawAtom::Chain(raws) => chain_shape(raws.as_slice()),
     }
 }
 
-/// The shape of strategies with `then` between each two.
+/// The shape of atoms with `then` between each two.
 #[cycle(shape)]
-pub(crate) fn whole_shape(raws: &[RawStrategy]) -> Shape
-    ensures nodes { result.nodes ≡ counted (whole_of raws.now).nodes }
-    ensures depth { result.depth ≡ counted (whole_of raws.now).depth }
+pub(crate) fn chain_shape(raws: &[RawAtom]) -> Shape
+    ensures nodes { result.nodes ≡ counted (chain_strategy raws.now).nodes }
+    ensures depth { result.depth ≡ counted (chain_strategy raws.now).depth }
 {
     let Some((first, more)) = raws.split_first() else {
         return ALONE;
     };
-    let mut shape = strategy_shape(first);
+    let mut shape = atom_shape(first);
     for raw in more {
-        shape = shape.then(strategy_shape(raw));
+        shape = shape.then(atom_shape(raw));
     }
     shape
 }

@@ -1,52 +1,50 @@
 ghost use Rattle.std.specs.Prelude.{◌<◌, ◌≤◌, [], length, IfOk};
-ghost use Rattle.mp_words.specs.Parts.{Reads};
-ghost use Rattle.mp_scripttext.specs.Grammar.{IsEntry, StuckEntry, IsScript, StuckScript};
+ghost use Rattle.mp_words.specs.Grammars.{whole};
+ghost use Rattle.mp_words.specs.Reading.{Reads};
+ghost use Rattle.mp_scripttext.specs.Grammar.{entry, script};
 
 use crate::chain::parse_chain;
 use crate::raw::RawEntry;
-use crate::step::parse_number_behind;
 use mp_logic::List;
+use mp_steptext::parse_number_behind;
 use mp_termtext::parse_sequent;
-use mp_words::{Keyword, Mark, ReadFail, Reader, Word, keyword, many, mark, name_behind, stuck};
+use mp_words::{
+    Keyword, Mark, ReadFail, Reader, Word, front, keyword, many, mark, name_behind, stuck,
+};
 use std::alloc::Global;
 
 impl Reader for RawEntry {
     type Raw = RawEntry;
 
-    ghost is = { IsEntry };
-
-    ghost stops = { StuckEntry };
+    ghost grammar = { entry };
 
     /// Reads `goal`, a name, the fuel, if any, a colon, the sequent, `by` and the strategy.
     fn read(alloc: Global, words: &[Word]) -> Result<(RawEntry, &[Word]), ReadFail> {
-        let (name, at) = name_behind(words, Keyword::Goal)?;
-        let (fuel, at) = parse_number_behind(at, Keyword::Fuel)?;
-        let Some(at) = mark(at, Mark::Colon) else {
-            return Err(stuck(at));
+        let (name, rest) = name_behind(words, Keyword::Goal)?;
+        let (fuel, rest) = parse_number_behind(rest, Keyword::Fuel)?;
+        let Some(rest) = mark(rest, Mark::Colon) else {
+            return Err(stuck(rest));
         };
-        let (goal, at) = parse_sequent(alloc, at)?;
-        let Some(at) = keyword(at, Keyword::By) else {
-            return Err(stuck(at));
+        let (goal, rest) = parse_sequent(alloc, rest)?;
+        let Some(rest) = keyword(rest, Keyword::By) else {
+            return Err(stuck(rest));
         };
-        let left = at.len() as u64;
-        let (strategy, rest) = parse_chain(alloc, at)?;
-        Ok((
-            RawEntry {
-                name,
-                fuel,
-                goal,
-                strategy,
-                left,
-            },
-            rest,
-        ))
+        let at = front(rest);
+        let (strategy, rest) = parse_chain(alloc, rest)?;
+        let entry = RawEntry {
+            name,
+            fuel,
+            goal,
+            strategy,
+            at,
+        };
+        Ok((entry, rest))
     }
 }
 
 /// Reads a script that is all of the words.
 pub(crate) fn parse_script(alloc: Global, words: &[Word]) -> Result<List<RawEntry>, ReadFail>
-    ensures reads { Reads (λ x. (x, [])) IsScript StuckScript words.now result }
-    ensures few { IfOk result (λ entries. length entries ≤ length words.now) }
+    ensures { Reads (λ x. (x, [])) (whole script) words.now result }
 {
     many::<RawEntry>(alloc, words)
 }

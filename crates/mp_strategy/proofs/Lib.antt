@@ -1,6 +1,8 @@
 pub mod Allowed
 pub mod Goods
 pub mod Inner
+pub mod Keeping
+pub mod LeafCounts
 pub mod Only
 pub mod Sound
 pub mod Steps

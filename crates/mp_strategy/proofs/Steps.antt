@@ -8,6 +8,7 @@ use Rattle.mp_logic.specs.declared.tree.Tree.TheVariants.{rolls-Leaf, rolls-Step
 use Rattle.mp_logic.specs.declared.tree.JustId.{JustId}
 use Rattle.mp_logic.specs.Trees.{root_of, goal_at, Grafting, graft_from, graft_step}
 use Rattle.mp_logic.specs.Lists.{greatest}
+use Rattle.mp_logic.specs.Valid.{EachGoal}
 use Rattle.mp_strategy.specs.Laws.{tree_depth_of, tree_depth_step}
 
 pub depth-Leaf : {G : Type 0} (g : G) → tree_depth_of (Leaf g) ≡ 0
@@ -50,3 +51,6 @@ module _ {G : Type 0} (Q : Tree-F G (Tree G) → Type 0) where
   every_kid g just kids h =
       let held = every_held-Tree G Q (Step g just kids) h in
       held_kids kids held.0 (ap kids_at (held.1 ∙ outs-Step g just kids))
+
+pub leaf_here : {G : Type 0} (P : G → Type 0) (g : G) → EachGoal P (Leaf g) → P g
+leaf_here {G} P g h = subst (λ layer. P (goal_at layer)) (outs-Leaf g) (every_here-Tree G (λ layer. P (goal_at layer)) (Leaf g) h)

@@ -5,7 +5,8 @@ use Rattle.std.proofs.lemmas.List.{get_or-set_other, length-replicate, length-se
 use Rattle.std.proofs.lemmas.Grind.{common_steps, get_or-set_at}
 use Rattle.std.specs.List.{list_all}
 use Rattle.mp_strategy.specs.declared.tactic.Tac.{Tac}
-use Rattle.mp_strategy.specs.Fits.{parts_of, is_behind, row_fits, rows_fit, depth_by, depths}
+use Rattle.mp_strategy.specs.declared.tactic.TacId.{TacId}
+use Rattle.mp_strategy.specs.Fits.{places, parts_of, is_behind, row_fits, rows_fit, depth_by, depths}
 use Rattle.mp_logic.specs.Lists.{greatest}
 
 -- an entry and those behind it
@@ -13,6 +14,12 @@ pub from_here : (ts : List Tac) (i : ℕ) (t d : Tac) → i < length ts → t �
 from_here ts i t d lt is =
     let e : suc i ≡ i + 1 = omega arith in
     drop-cons ts i d lt ∙ ap (λ s. s ∷ drop (suc i) ts) (sym is) ∙ ap (λ n. t ∷ drop n ts) e
+
+-- the first one of the places that are left
+pub places_step : (parts : List TacId) (i : ℕ) (p d : TacId) → i < length parts → p ≡ get_or parts i d → places (drop i parts) ≡ p.0 ∷ places (drop (i + 1) parts)
+places_step parts i p d lt is =
+    let e : suc i ≡ i + 1 = omega arith in
+    ap places (drop-cons parts i d lt ∙ ap (λ s. s ∷ drop (suc i) parts) (sym is) ∙ ap (λ n. p ∷ drop n parts) e)
 
 pub count_here : (ts : List Tac) (i : ℕ) → i < length ts → i + 1 + length (drop (i + 1) ts) ≡ length ts
 count_here ts i lt = grind (arith, length-drop)

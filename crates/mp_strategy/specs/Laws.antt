@@ -1,17 +1,19 @@
 -- What holds of all that strategies give.
-use Rattle.std.specs.Prelude.{◌≡◌, ℕ, ◌+◌, ◌<◌, ◌≤◌, Bool, IsTrue, List, [], length, ⊤}
+use Rattle.std.specs.Prelude.{◌≡◌, ℕ, ◌+◌, ◌<◌, ◌≤◌, IsTrue, List, length, ⊤}
 use Rattle.mp_logic.specs.declared.tree.Tree.{Tree}
 use Rattle.mp_logic.specs.declared.tree.Tree.TheOpen.{Tree-F}
 use Rattle.mp_logic.specs.declared.tree.Tree.TheOpen as layer
 use Rattle.mp_logic.specs.declared.tree.Tree.TheFolds.{fold-Tree}
+use Rattle.mp_logic.specs.Lists.{greatest}
+use Rattle.mp_logic.specs.Meaning.{Meaning}
 use Rattle.mp_logic.specs.Steps as steps
-use Rattle.mp_logic.specs.Trees.{leaf_count_of, EachLeaf}
+use Rattle.mp_logic.specs.Trees.{leaf_count_of}
 use Rattle.mp_logic.specs.Valid.{IsValid, EachGoal, Derivable}
-use Rattle.mp_strategy.specs.declared.tactic.Tac.{Tac}
 use Rattle.mp_strategy.specs.declared.outcome.Outcome.{Outcome}
 use Rattle.mp_strategy.specs.declared.outcome.Outcome.TheVariants as outcome
+use Rattle.mp_strategy.specs.declared.problem.ProblemState.{ProblemState}
 use Rattle.mp_strategy.specs.declared.work.Work.{Work}
-use Rattle.mp_logic.specs.Lists.{greatest}
+use Rattle.mp_strategy.specs.Fits.{no_race_in}
 use Rattle.mp_strategy.specs.Strategies.{Evals}
 use Rattle.mp_strategy.specs.Evaluation.{eval}
 
@@ -24,38 +26,42 @@ tree_depth_step (layer.Step g just kids) = 1 + greatest kids
 abbrev pub tree_depth_of : {G : Type 0} → Tree G → ℕ
 tree_depth_of {G} = fold-Tree G ℕ tree_depth_step
 
--- the open leaves of a tree are good goals, and so is the goal of a failure
-abbrev pub IsGood : {G : Type 0} → (G → Bool) → Outcome G → Type 0
-IsGood good (outcome.Tree t) = EachLeaf (λ g. IsTrue (good g)) t
-IsGood good (outcome.Failure e) = IsTrue (good e.goal)
+-- a tree is valid for the goal, and no path of it has more steps than so much fuel
+abbrev pub IsSoundFor : {G J : Type 0} → (J → G → steps.Outcome G) → List J → ℕ → G → Outcome G → Type 0
+IsSoundFor step justs f g (outcome.Tree t) = IsValid step justs t g × (tree_depth_of t ≤ f)
+IsSoundFor step justs f g (outcome.Failure e) = ⊤
 
-module _ {G J : Type 0} (step : J → G → steps.Outcome G) (justs : List J) where
-  -- a tree is valid for the goal, and no path of it has more steps than the fuel
-  abbrev pub IsSound : ℕ → G → Outcome G → Type 0
-  IsSound f g (outcome.Tree t) = IsValid step justs t g × (tree_depth_of t ≤ f)
-  IsSound f g (outcome.Failure e) = ⊤
+-- each goal of an outcome is good: of a tree the inner ones and the open ones, of a failure the goal that it arose at
+abbrev pub IsGood : {G J : Type 0} → Meaning G J → Outcome G → Type 0
+IsGood m (outcome.Tree t) = EachGoal (λ g. IsTrue (m.good g)) t
+IsGood m (outcome.Failure e) = IsTrue (m.good e.goal)
 
-  -- evaluation of an entry gives what the relation allows
-  abbrev pub EvalIsAllowed : List Tac → Type 0
-  EvalIsAllowed tacs = (work : Work G) → work.tac.0 < length tacs → Evals step justs tacs work (eval step justs tacs work)
+module _ {L G J : Type 0} (meaning : L → Meaning G J) (p : ProblemState L J) where
+  -- a tree is valid for the work's goal, and no path of it has more steps than the work's fuel
+  abbrev pub IsSound : Work G → Outcome G → Type 0
+  IsSound work o = IsSoundFor (meaning p.logic).step p.justs work.fuel work.goal o
 
-  -- the relation allows nothing but what evaluation gives: no strategy is a race
-  abbrev pub OnlyEvalIsAllowed : List Tac → Type 0
-  OnlyEvalIsAllowed tacs = (work : Work G) (o : Outcome G) → Evals step justs tacs work o → o ≡ eval step justs tacs work
+  -- what evaluation gives of a work is an outcome that the relation allows
+  abbrev pub EvalIsAllowed : Type 0
+  EvalIsAllowed = (work : Work G) → work.tac.0 < length p.tacs → Evals meaning p work (eval meaning p work)
+
+  -- where no race can be reached from a work's strategy, the relation allows nothing but what evaluation gives
+  abbrev pub OnlyEvalIsAllowed : Type 0
+  OnlyEvalIsAllowed = (work : Work G) (o : Outcome G) → IsTrue (no_race_in 0 p.tacs work.tac.0) → Evals meaning p work o → o ≡ eval meaning p work
 
   -- each tree that the relation allows is valid for the work's goal, and no path of it has more steps than the work's fuel
-  abbrev pub TreesAreSound : List Tac → Type 0
-  TreesAreSound tacs = (work : Work G) (o : Outcome G) → Evals step justs tacs work o → IsSound work.fuel work.goal o
+  abbrev pub TreesAreSound : Type 0
+  TreesAreSound = (work : Work G) (o : Outcome G) → Evals meaning p work o → IsSound work o
 
   -- a good goal gives good goals
-  abbrev pub GoalsStayGood : (G → Bool) → List Tac → Type 0
-  GoalsStayGood good tacs = (work : Work G) (o : Outcome G) → IsTrue (good work.goal) → Evals step justs tacs work o → IsGood good o
+  abbrev pub GoalsStayGood : Type 0
+  GoalsStayGood = (work : Work G) (o : Outcome G) → IsTrue ((meaning p.logic).good work.goal) → Evals meaning p work o → IsGood (meaning p.logic) o
 
   -- each goal of a tree that is valid for a good goal is good
-  abbrev pub InnerGoalsAreGood : (G → Bool) → Type 0
-  InnerGoalsAreGood good = (t : Tree G) (g : G) → IsTrue (good g) → IsValid step justs t g → EachGoal (λ h. IsTrue (good h)) t
+  abbrev pub InnerGoalsAreGood : Type 0
+  InnerGoalsAreGood = (t : Tree G) (g : G) → IsTrue ((meaning p.logic).good g) → IsValid (meaning p.logic).step p.justs t g → EachGoal (λ h. IsTrue ((meaning p.logic).good h)) t
 
   -- the good goal of a work that gives a tree without open leaves is derivable
-  abbrev pub ClosedGoalsAreDerivable : (G → Bool) → (J → Bool) → List Tac → Type 0
-  ClosedGoalsAreDerivable good allowed tacs =
-      (work : Work G) (t : Tree G) → IsTrue (good work.goal) → Evals step justs tacs work (outcome.Tree t) → leaf_count_of t ≡ 0 → Derivable good allowed step work.goal
+  abbrev pub ClosedGoalsAreDerivable : Type 0
+  ClosedGoalsAreDerivable =
+      (work : Work G) (t : Tree G) → IsTrue ((meaning p.logic).good work.goal) → Evals meaning p work (outcome.Tree t) → leaf_count_of t ≡ 0 → Derivable (meaning p.logic) work.goal

@@ -9,8 +9,8 @@ mod tactic;
 mod work;
 
 pub use fitting::fits;
-pub use limits::{MOST_DEPTH, MOST_FUEL, MOST_NODES, MOST_REPEATS};
+pub use limits::{MOST_BRANCHES, MOST_DEPTH, MOST_FUEL, MOST_NODES, MOST_REPEATS};
 pub use outcome::{Failure, Kind, Outcome, copy_outcome};
-pub use problem::Problem;
+pub use problem::{Problem, ProblemState};
 pub use tactic::{Tac, TacId};
-pub use work::{Work, copy_work};
+pub use work::{Work, copy_work, left_at};

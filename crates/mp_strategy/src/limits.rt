@@ -9,3 +9,6 @@ pub const MOST_DEPTH: u8 = 64;
 
 /// The greatest number of entries of a table of strategies.
 pub const MOST_NODES: usize = 4096;
+
+/// The greatest number of branches of a race.
+pub const MOST_BRANCHES: u64 = 8;

@@ -1,9 +1,10 @@
-ghost use Rattle.std.specs.Prelude.{◌≡◌, ◌<◌, ◌≤◌, length, IsTrue, IfOk};
+ghost use Rattle.std.specs.Prelude.{◌≡◌, ◌<◌, ◌≤◌, length, slice_get, IsTrue, IfOk};
 ghost use Rattle.mp_strategy.specs.declared.limits.TheConstants.{MOST_FUEL};
+ghost use Rattle.mp_strategy.specs.Strategies.{left_of};
 ghost use Rattle.mp_strategy.specs.Works.{work_of, IsWork};
 
-use crate::{Problem, TacId};
-use mp_logic::{Logic, NoMemory};
+use crate::{Problem, Tac, TacId};
+use mp_logic::{List, Logic, NoMemory};
 use std::alloc::Global;
 
 /// A strategy to be tried on a goal.
@@ -24,16 +25,27 @@ impl<G: Drop> Work<G> {
     pub fn of<L: Logic<Goal = G>>(problem: &Problem<L>, tac: TacId, fuel: u32, goal: G) -> Work<G>
         requires tac { tac.0 < length problem.now.tacs }
         requires fuel { fuel ≤ MOST_FUEL }
-        requires good { IsTrue (L.good problem.now.logic.now goal) }
+        requires good { IsTrue ((L.meaning problem.now.logic).good goal) }
         ensures value { result ≡ work_of problem.now.tacs tac fuel goal }
-        ensures fits { IsWork (L.good problem.now.logic.now) problem.now.tacs result }
+        ensures fits { IsWork L.meaning problem.now result }
     {
+        let left = left_at(&problem.tacs, tac);
         Work {
             tac,
-            left: 0,
+            left,
             fuel,
             goal,
         }
+    }
+}
+
+/// How often the strategy at a place of the table repeats: the count of a repeat, and 0 for any other one.
+pub fn left_at(tacs: &List<Tac>, at: TacId) -> u32
+    ensures { result ≡ left_of (slice_get tacs.now at.0) }
+{
+    match tacs.get(at.0 as u64) {
+        Some(Tac::Repeat(times, _)) => *times,
+        _ => 0,
     }
 }
 

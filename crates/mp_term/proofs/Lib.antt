@@ -6,6 +6,7 @@ pub mod Laws
 pub mod Layers
 pub mod LimitFacts
 pub mod NarrowGoals
+pub mod Ranges
 pub mod Renaming
 pub mod ScopeLaws
 pub mod SizeLaws

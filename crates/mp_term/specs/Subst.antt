@@ -70,6 +70,11 @@ weak n k = fold-Term Term Bound (weak_step n k) weak_bound_step
 abbrev pub weak_bound : ℕ → ℕ → Bound → Bound
 weak_bound n k = fold-Bound Term Bound (weak_step n k) weak_bound_step
 
+-- the numbers from m to m + k - 1
+abbrev pub upto : ℕ → ℕ → List ℕ
+upto m zero = []
+upto m (suc k) = m ∷ upto (suc m) k
+
 -- the variables m to m + k - 1
 abbrev pub variables : ℕ → ℕ → List Term
 variables m zero = []

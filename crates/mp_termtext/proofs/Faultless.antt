@@ -1,5 +1,5 @@
 -- What follows where no static rule is broken: few binders, small levels, and the same for the parts.
-use Rattle.std.proofs.Common.{◌≡◌, ◌++◌, ◌+◌, ◌<◌, ◌≤◌, ◌^◌, ℕ, ℤ, pos, negsuc, zero, suc, List, [], ◌∷◌, Option, None, Some, Bool, true, false, not, ◌&&◌, nat_le, nat_lt, nat_eq, if◌then◌else◌, length, length-append, map, drop, get_or, slice_get, refl, ap, sym, subst, ◌∙◌, inl, inr, arith}
+use Rattle.std.proofs.Common.{◌≡◌, ◌++◌, ◌+◌, ◌<◌, ◌≤◌, ◌^◌, ℕ, zero, suc, List, [], ◌∷◌, Option, None, Some, Bool, true, false, nat_lt, nat_eq, if◌then◌else◌, length, length-append, map, drop, get_or, refl, ap, sym, subst, ◌∙◌, arith}
 use Rattle.std.specs.Prelude.{unwrap_or}
 use Rattle.std.proofs.lemmas.Bool.Decides.{nat_tests}
 use Rattle.mp_logic.specs.declared.sym.Sym.{Sym}
@@ -11,7 +11,7 @@ use Rattle.mp_termtext.specs.declared.raw.RawHyp.{RawHyp}
 use Rattle.mp_termtext.specs.declared.raw.RawSequent.{RawSequent}
 use Rattle.mp_words.specs.declared.fail.TextWhy.TheVariants as why
 use Rattle.mp_words.specs.Faults.{fault_if, too_many}
-use Rattle.mp_termtext.specs.Statics.{bound_faults_of, deep, each_faults, faults_of, free_level, hyp_names, hyps_faults, left_of, level_by, level_of, names_of, or_here, place_in, raw_sequent_size_of, raw_size_of, sequent_faults, term_faults, unless_bound}
+use Rattle.mp_termtext.specs.Statics.{bound_faults_of, deep, each_faults, faults_of, free_level, hyp_names, hyps_faults, at_of, level_by, level_of, names_of, or_here, place_in, raw_sequent_size_of, raw_size_of, sequent_faults, term_faults, unless_bound}
 use Rattle.mp_termtext.specs.Values.{AreFaultless, IsFaultless, IsFaultlessBound}
 use Rattle.mp_words.proofs.NoFaults.{nil_parts, no_fault, not_many}
 use Rattle.mp_words.proofs.Walks.{left_cons}
@@ -60,9 +60,9 @@ level_fits free t n k l env e lt h =
 pub subs_faultless : (free : ℕ) (t : RawTerm) (n : Sym) (ps : List RawParam) (ks : List RawBound) (l : ℕ) (env : List Sym) → t ≡ Op n ps ks l → IsFaultless free t env → AreFaultless free ks env
 subs_faultless free t n ps ks l env e h =
     let subs = each_faults (map (bound_faults_of free) ks) env (h.0 + 1) in
-    let f : deep h.0 l ++ too_many (λ p. p.left) 16 ps ++ subs ≡ [] = sym (ap (λ r. faults_of free r env h.0) e ∙ faults-Op free n ps ks l env h.0) ∙ h.1 in
+    let f : deep h.0 l ++ too_many (λ p. p.at) 16 ps ++ subs ≡ [] = sym (ap (λ r. faults_of free r env h.0) e ∙ faults-Op free n ps ks l env h.0) ∙ h.1 in
     let long = h.2 in
-    (h.0 + 1, (nil_parts (deep h.0 l ++ too_many (λ p. p.left) 16 ps) subs f).1, omega (arith, long))
+    (h.0 + 1, (nil_parts (deep h.0 l ++ too_many (λ p. p.at) 16 ps) subs f).1, omega (arith, long))
 
 -- the first of some subterms, and the rest of them
 pub first_faultless : (free : ℕ) (ks : List RawBound) (i : ℕ) (k : RawBound) (env now : List Sym) → i < length ks → k ≡ get_or ks i k → now ≡ env → AreFaultless free (drop i ks) env
@@ -77,8 +77,8 @@ first_faultless free ks i k env now lt is same h =
 -- a subterm has few binders, and a body without faults
 pub body_faultless : (free : ℕ) (k : RawBound) (env now : List Sym) → now ≡ env ++ names_of k.binders → IsFaultlessBound free k env → IsFaultless free k.body now × (length k.binders ≤ 8)
 body_faultless free k env now e h =
-    let both = nil_parts (too_many (λ b. b.left) 8 k.binders) (faults_of free k.body (env ++ names_of k.binders) h.0) (sym (bound_faults-is free k env h.0) ∙ h.1) in
-    let few = not_many (λ b. b.left) 8 k.binders both.0 in
+    let both = nil_parts (too_many (λ b. b.at) 8 k.binders) (faults_of free k.body (env ++ names_of k.binders) h.0) (sym (bound_faults-is free k env h.0) ∙ h.1) in
+    let few = not_many (λ b. b.at) 8 k.binders both.0 in
     let len : length (env ++ names_of k.binders) ≡ length env + length (names_of k.binders) = length-append env (names_of k.binders) in
     let names : length (names_of k.binders) ≡ length k.binders = length_names k.binders in
     let long = h.2 in
@@ -92,7 +92,7 @@ body_faultless free k env now e h =
 -- a term that is all of a text without faults
 pub whole_faultless : (free : ℕ) (t : RawTerm) (env : List Sym) → env ≡ [] → term_faults free t ≡ [] → IsFaultless free t env
 whole_faultless free t env e h =
-    let f = (nil_parts (faults_of free t [] 1) (fault_if (nat_lt 20000 (raw_size_of t)) (left_of t) why.TooBig) h).0 in
+    let f = (nil_parts (faults_of free t [] 1) (fault_if (nat_lt 20000 (raw_size_of t)) (at_of t) why.TooBig) h).0 in
     let one : length env ≡ 0 = ap length e in
     (1, ap (λ ns. faults_of free t ns 1) e ∙ f, omega (arith, one))
 
@@ -105,13 +105,13 @@ first_hyp_faultless hs i h env lt is f =
 -- the parts of a sequent without faults: few hypotheses, and terms without faults
 pub sequent_faultless : (s : RawSequent) → sequent_faults s ≡ [] → (length s.hyps ≤ 200) × (hyps_faults s.hyps [] ≡ []) × (faults_of 0 s.concl (hyp_names s.hyps) 1 ≡ [])
 sequent_faultless s h =
-    let m = too_many (λ h. h.left) 200 s.hyps in
+    let m = too_many (λ h. h.at) 200 s.hyps in
     let hs = hyps_faults s.hyps [] in
     let cs = faults_of 0 s.concl (hyp_names s.hyps) 1 in
-    let a = nil_parts ((m ++ hs) ++ cs) (fault_if (nat_lt 20000 (raw_sequent_size_of s)) s.left why.TooBig) h in
+    let a = nil_parts ((m ++ hs) ++ cs) (fault_if (nat_lt 20000 (raw_sequent_size_of s)) s.at why.TooBig) h in
     let b = nil_parts (m ++ hs) cs a.0 in
     let c = nil_parts m hs b.0 in
-    (not_many (λ h. h.left) 200 s.hyps c.0, c.1, b.1)
+    (not_many (λ h. h.at) 200 s.hyps c.0, c.1, b.1)
 
 pub length-hyp_names : (hs : List RawHyp) → length (hyp_names hs) ≡ length hs
 length-hyp_names [] = refl

@@ -12,7 +12,7 @@ use Rattle.mp_names.specs.Table.{text_of}
 use Rattle.mp_lex.specs.declared.token.Kind.{Kind}
 use Rattle.mp_lex.specs.declared.token.Kind.TheVariants as kind
 use Rattle.mp_lex.specs.declared.token.Token.{Token}
-use Rattle.mp_lex.specs.Bytes.{is_closing, is_digit, is_opening, is_small, is_word}
+use Rattle.mp_lex.specs.Bytes.{is_closing, is_digit, is_opening, is_small, is_word_byte}
 use Rattle.mp_lex.specs.Forms.{is_name, is_number, is_text}
 use Rattle.mp_lex.specs.Lex.{Lexing, begins_with, depth_after, lex, lex_from, string_len, token_text as bytes_of, with_front}
 use Rattle.mp_lex.proofs.Whole.{Begins, digits_begin, drop_whole, negative_begins, read_whole, small_begins, string_begins, take_whole, variable_begins}
@@ -32,7 +32,7 @@ use Rattle.mp_termtext.proofs.Printable.{FitBound, FitBounds, FitHyps, Fits, fir
 
 -- the next byte goes on with no name and no number
 abbrev pub Stops : List ℕ → Type 0
-Stops rest = begins_with is_word rest ≡ false
+Stops rest = begins_with is_word_byte rest ≡ false
 
 abbrev pub Always : List ℕ → Type 0
 Always rest = Unit {0}
@@ -156,7 +156,7 @@ close_brace : (m : ℕ) → Lexes Always 1 0 m (codes "}") (mark_piece (codes "}
 close_brace m = token_lexes kind.Mark 125 [] Always 1 0 m (λ rest d. refl) (closed 125 m refl refl)
 
 small_first : (c : ℕ) (cs : List ℕ) → is_name is_small (c ∷ cs) ≡ true → is_small c ≡ true
-small_first c cs h = (and_parts (is_small c) (list_all is_word cs) (and_parts (is_small c && list_all is_word cs) (nat_lt (length cs) 64) h).0).0
+small_first c cs h = (and_parts (is_small c) (list_all is_word_byte cs) (and_parts (is_small c && list_all is_word_byte cs) (nat_lt (length cs) 64) h).0).0
 
 small_opens : (c : ℕ) → is_small c ≡ true → is_opening c ≡ false
 small_opens c h = grind (arith, nat_tests, h)

@@ -9,7 +9,7 @@ use Rattle.std.proofs.lemmas.Bool.{and_from, and_parts}
 use Rattle.std.proofs.lemmas.Bool.Decides.{nat_tests}
 use Rattle.std.proofs.lemmas.Fmt.{decimal_digit, decimal_injective, decimal_is_IsNumeral, decimal_nonempty, digits_value-decimal, first_decimal, length-decimal-le}
 use Rattle.std.proofs.lemmas.Str.Parse.{IsDigitsTest, IsNumeralModel, FoldsDigits, numerals_by_fold}
-use Rattle.mp_lex.specs.Bytes.{is_digit, is_small, is_word}
+use Rattle.mp_lex.specs.Bytes.{is_digit, is_small, is_word_byte}
 use Rattle.mp_lex.specs.Forms.{is_name, is_negative, is_number, is_positive, number_of_digits}
 use Rattle.mp_termtext.specs.Printing.{name_text}
 use Rattle.mp_termtext.specs.Round.{fits_i64}
@@ -59,14 +59,14 @@ positive_from (d ∷ ds) h some first =
 pub positive-decimal : (n : ℕ) → 0 < n → n < 2 ^ 64 → is_positive (decimal n) ≡ true
 positive-decimal n some h = positive_from (decimal n) (digits_of-decimal n h) (decimal_nonempty n h) (first_decimal n some h)
 
-digit_is_word : (c : ℕ) → is_digit c ≡ true → is_word c ≡ true
+digit_is_word : (c : ℕ) → is_digit c ≡ true → is_word_byte c ≡ true
 digit_is_word c h = let r = digit_in_range c h in let low = r.0 in let high = r.1 in grind (arith, nat_tests, low, high)
 
-digits_are_words : (ds : List ℕ) → list_all is_digit ds ≡ true → list_all is_word ds ≡ true
+digits_are_words : (ds : List ℕ) → list_all is_digit ds ≡ true → list_all is_word_byte ds ≡ true
 digits_are_words [] h = refl
 digits_are_words (d ∷ ds) h =
     let both = and_parts (is_digit d) (list_all is_digit ds) h in
-    and_from (is_word d) (list_all is_word ds) (digit_is_word d both.0) (digits_are_words ds both.1)
+    and_from (is_word_byte d) (list_all is_word_byte ds) (digit_is_word d both.0) (digits_are_words ds both.1)
 
 -- the name of a level is a name
 pub small-name_text : (l : ℕ) → l + 1 < 2 ^ 64 → is_name is_small (name_text l) ≡ true
@@ -74,7 +74,7 @@ small-name_text l h =
     let words = digits_are_words (decimal (l + 1)) (digits_of-decimal (l + 1) h) in
     let few : length (decimal (l + 1)) ≤ 20 = length-decimal-le 20 (l + 1) (omega arith) (omega (arith, h)) h in
     let short : nat_lt (length (decimal (l + 1))) 64 ≡ true = grind (arith, nat_tests, few) in
-    and_from (is_small 120 && list_all is_word (decimal (l + 1))) (nat_lt (length (decimal (l + 1))) 64) (and_from (is_small 120) (list_all is_word (decimal (l + 1))) refl words) short
+    and_from (is_small 120 && list_all is_word_byte (decimal (l + 1))) (nat_lt (length (decimal (l + 1))) 64) (and_from (is_small 120) (list_all is_word_byte (decimal (l + 1))) refl words) short
 
 -- it tells the number of the level
 pub numbered-name_text : (l : ℕ) → l + 1 < 2 ^ 32 → numbered_of (name_text l) ≡ Some (l + 1)

@@ -14,10 +14,10 @@ use Rattle.mp_termtext.specs.Values.{bound_value_of, each_subterm_value, value_o
 pub faults-Var : (free : ℕ) (n : Sym) (k : Option ℕ) (l : ℕ) (env : List Sym) (d : ℕ) → faults_of free (Var n k l) env d ≡ deep d l ++ unless_bound l (level_of free env n k)
 faults-Var free n k l env d = search (rules, the_lemmas)
 
-pub faults-Op : (free : ℕ) (n : Sym) (ps : List RawParam) (ks : List RawBound) (l : ℕ) (env : List Sym) (d : ℕ) → faults_of free (Op n ps ks l) env d ≡ deep d l ++ too_many (λ p. p.left) 16 ps ++ each_faults (map (bound_faults_of free) ks) env (d + 1)
+pub faults-Op : (free : ℕ) (n : Sym) (ps : List RawParam) (ks : List RawBound) (l : ℕ) (env : List Sym) (d : ℕ) → faults_of free (Op n ps ks l) env d ≡ deep d l ++ too_many (λ p. p.at) 16 ps ++ each_faults (map (bound_faults_of free) ks) env (d + 1)
 faults-Op free n ps ks l env d = search (rules, the_lemmas)
 
-pub bound_faults-is : (free : ℕ) (k : RawBound) (env : List Sym) (d : ℕ) → bound_faults_of free k env d ≡ too_many (λ b. b.left) 8 k.binders ++ faults_of free k.body (env ++ names_of k.binders) d
+pub bound_faults-is : (free : ℕ) (k : RawBound) (env : List Sym) (d : ℕ) → bound_faults_of free k env d ≡ too_many (λ b. b.at) 8 k.binders ++ faults_of free k.body (env ++ names_of k.binders) d
 bound_faults-is free k env d = search (rules, the_lemmas)
 
 pub value-Var : (free : ℕ) (n : Sym) (k : Option ℕ) (l : ℕ) (env : List Sym) → value_of free (Var n k l) env ≡ term.Var (unwrap_or (level_of free env n k) 0)

@@ -1,5 +1,5 @@
 -- What is printed of a value is read again as that value.
-use Rattle.std.proofs.Common.{◌≡◌, ◌++◌, ◌+◌, ◌*◌, ◌≤◌, ℕ, List, [], ◌∷◌, true, nat_lt, nat_le, ◌&&◌, length, map, refl, ap, sym, subst, ◌∙◌, append-nil, arith}
+use Rattle.std.proofs.Common.{◌≡◌, ◌++◌, ◌+◌, ◌*◌, ◌≤◌, ℕ, List, [], ◌∷◌, Bool, true, false, None, nat_lt, nat_le, ◌&&◌, length, map, refl, ap, sym, ◌∙◌, append-nil, arith}
 use Rattle.std.specs.List.{list_all}
 use Rattle.std.proofs.lemmas.Bool.{and_parts}
 use Rattle.std.proofs.lemmas.Bool.Decides.{nat_tests}
@@ -10,22 +10,36 @@ use Rattle.mp_term.specs.Terms.{in_scope_of}
 use Rattle.mp_term.specs.Limits.{few_binders_of, in_scopes_from, is_shallow, sequent_size_of}
 use Rattle.mp_words.specs.declared.fail.TextWhy.TheVariants as why
 use Rattle.mp_words.specs.Faults.{fault_if}
-use Rattle.mp_termtext.specs.Grammar.{IsSequent, IsTerm}
+use Rattle.mp_words.specs.declared.word.Word.{Word}
+use Rattle.mp_words.specs.Faults.{least}
+use Rattle.mp_termtext.specs.Grammar.{sequent, term}
 use Rattle.mp_termtext.specs.Printing.{sequent_text, term_text}
 use Rattle.mp_termtext.specs.Round.{PrintedSequentIsRead, PrintedTermIsRead, is_written}
-use Rattle.mp_termtext.specs.Statics.{left_of, raw_size_of}
-use Rattle.mp_words.specs.Texts.{words_in}
-use Rattle.mp_words.specs.Words.{Piece, names_after, pieces_of, word_of, words_of}
-use Rattle.mp_words.proofs.Later.{names_after_extends, words_by_last}
+use Rattle.mp_termtext.specs.Statics.{at_of, raw_size_of, sequent_faults, term_faults}
+use Rattle.mp_words.specs.Words.{Piece, names_after, pieces_of, what_of, whats_of, words_in}
+use Rattle.mp_words.proofs.Answering.{one_fault_of}
+use Rattle.mp_words.proofs.Later.{names_after_extends, whats_by_last, whats_in}
+use Rattle.mp_termtext.proofs.Laid.{at_left, laid_again, laid_at}
+use Rattle.mp_termtext.proofs.Rows.{whole_is}
 use Rattle.mp_termtext.proofs.LexedAgain.{sequent_lexes, term_lexes, whole_lexes}
 use Rattle.mp_termtext.proofs.PrintedPieces.{sequent_pieces, term_pieces}
 use Rattle.mp_termtext.proofs.Printable.{FitHyps, Fits, most_levels}
 use Rattle.mp_termtext.proofs.ReadAgain.{few_nodes, sequent_again, term_again}
 use Rattle.mp_words.proofs.TableFacts.{all_held, distinct_after}
 
+-- the places of words, and which of them open lines
+abbrev places : List Word → ℕ → ℕ
+places ws = at_left (λ w. w.at) 0 ws
+
+abbrev openings : List Word → ℕ → Bool
+openings ws = at_left (λ w. w.opens_line) false ws
+
 -- the words of a text whose tokens have these pieces, by the table that it leaves
-words_are : (later : List (List ℕ)) (text : List ℕ) (ts : List Token) (ps : List Piece) → pieces_of text ts ≡ ps → map (word_of (names_after later ps)) ps ++ [] ≡ words_in later text ts
-words_are later text ts ps e = append-nil (map (word_of (names_after later ps)) ps) ∙ sym (ap (words_of later) e ∙ words_by_last later ps)
+words_are : (later : List (List ℕ)) (text : List ℕ) (ts : List Token) (ps : List Piece) → pieces_of text ts ≡ ps
+    → words_in later text ts ≡ laid_at (places (words_in later text ts)) (openings (words_in later text ts)) (map (what_of (names_after later ps)) ps ++ [])
+words_are later text ts ps e =
+    let ws = words_in later text ts in
+    sym (laid_again ws) ∙ ap (laid_at (places ws) (openings ws)) (whats_in later text ts ∙ ap (whats_of later) e ∙ whats_by_last later ps ∙ sym (append-nil (map (what_of (names_after later ps)) ps)))
 
 pub term_is_read : PrintedTermIsRead
 term_is_read names later scope t extends distinct low fits =
@@ -36,15 +50,16 @@ term_is_read names later scope t extends distinct low fits =
     let fit : Fits names scope 200 t = record { scoped = fits.in_scope; few = fits.few; written = fits.written; shallow = fits.shallow; narrow = narrow } in
     let lexed = whole_lexes 200 text ps (omega arith) (term_lexes names t scope 200 fit) in
     let here : scope ≡ scope + 0 = omega arith in
-    let a = term_again names table (extends_on names later table extends (names_after_extends later ps)) (distinct_after later ps distinct) scope low t scope 0 200 1 here fit (omega arith) (λ j lt. absurd (omega (arith, lt))) (all_held later ps) [] ((λ us q. cc), (λ us q. cc)) in
+    let ws = words_in later text lexed.0 in
+    let a = term_again (places ws) (openings ws) names table (extends_on names later table extends (names_after_extends later ps)) (distinct_after later ps distinct) scope low t scope 0 200 1 here fit (omega arith) (λ j lt. absurd (omega (arith, lt))) (all_held later ps) [] (refl, refl) in
     let size = a.size in
     let small = fits.small in
     record {
       tokens = lexed.0;
       raw = a.raw;
       lexed = lexed.1;
-      is = (subst (λ ws. IsTerm a.raw ws []) (words_are later text lexed.0 ps lexed.2) a.is, refl);
-      faultless = ap (λ fs. fs ++ fault_if (nat_lt 20000 (raw_size_of a.raw)) (left_of a.raw) why.TooBig) a.faultless ∙ few_nodes names table (extends_on names later table extends (names_after_extends later ps)) (distinct_after later ps distinct) (raw_size_of a.raw) (left_of a.raw) (omega (arith, size, small));
+      is = whole_is term ws a.raw (ap term (words_are later text lexed.0 ps lexed.2) ∙ a.is);
+      faultless = one_fault_of (term_faults scope a.raw) None (sym (ap least (ap (λ fs. fs ++ fault_if (nat_lt 20000 (raw_size_of a.raw)) (at_of a.raw) why.TooBig) a.faultless ∙ few_nodes (raw_size_of a.raw) (at_of a.raw) (omega (arith, size, small)))));
       has = sym a.value;
     }
 
@@ -79,12 +94,13 @@ sequent_is_read names later s extends distinct fits =
     let hyps_fit = fit_hyps names s.hyps 0 (omega (arith, few)) scopes.0 counts.1 binders.0 written.0 in
     let fit : Fits names n 200 s.concl = record { scoped = scopes.1; few = binders.1; written = written.1; shallow = grind (arith, nat_tests, depth); narrow = omega (arith, few) } in
     let lexed = whole_lexes 200 text ps (omega arith) (sequent_lexes names s hyps_fit fit) in
-    let a = sequent_again names table further (distinct_after later ps distinct) s [] hyps_fit fit few small (all_held later ps) ((λ us q. cc), (λ us q. cc)) in
+    let ws = words_in later text lexed.0 in
+    let a = sequent_again (places ws) (openings ws) names table further (distinct_after later ps distinct) s [] hyps_fit fit few small (all_held later ps) (refl, refl) in
     record {
       tokens = lexed.0;
       raw = a.raw;
       lexed = lexed.1;
-      is = (subst (λ ws. IsSequent a.raw ws []) (words_are later text lexed.0 ps lexed.2) a.is, refl);
-      faultless = a.faultless;
+      is = whole_is sequent ws a.raw (ap sequent (words_are later text lexed.0 ps lexed.2) ∙ a.is);
+      faultless = one_fault_of (sequent_faults a.raw) None (sym (ap least a.faultless));
       has = sym a.value;
     }

@@ -2,12 +2,11 @@
 --   term = SmallVar | Small params? subs?     params = [ param (; param)* ]     param = Num | Str
 --   subs = { bound (; bound)* }     bound = binders? term     binders = Small (, Small)* .
 --   sequent = hyps? >- term     hyps = hyp (; hyp)*     hyp = Small : term
-use Rattle.std.specs.Prelude.{◌≡◌, ◌⊎◌, ℕ, List, [], ◌∷◌, length, Option, Bool, true, false}
-use Rattle.mp_logic.specs.declared.sym.Sym.{Sym}
-use Rattle.mp_term.specs.declared.term.Param.{Param}
-use Rattle.mp_term.specs.declared.term.Param.TheVariants as param
+use Rattle.std.specs.Prelude.{ℕ, List, [], drop, Option, None, Some, Bool, ◌&&◌, ◌||◌}
+use Rattle.mp_term.specs.declared.term.Param.TheVariants.{Num, Str}
+use Rattle.mp_words.specs.declared.word.What.{What}
+use Rattle.mp_words.specs.declared.word.What.TheVariants as what
 use Rattle.mp_words.specs.declared.word.Word.{Word}
-use Rattle.mp_words.specs.declared.word.Word.TheVariants as word
 use Rattle.mp_words.specs.declared.word.Mark.TheVariants as mark
 use Rattle.mp_words.specs.declared.raw.RawName.{RawName}
 use Rattle.mp_termtext.specs.declared.raw.RawParam.{RawParam}
@@ -15,114 +14,120 @@ use Rattle.mp_termtext.specs.declared.raw.RawBound.{RawBound}
 use Rattle.mp_termtext.specs.declared.raw.RawTerm.{RawTerm, Var, Op}
 use Rattle.mp_termtext.specs.declared.raw.RawHyp.{RawHyp}
 use Rattle.mp_termtext.specs.declared.raw.RawSequent.{RawSequent}
-use Rattle.mp_words.specs.Parts.{No, None_of, Lacks, IsMark, IsName, IsNameAt, Both, StuckBoth, After, StuckAfter, Optional, StuckOptional, Separated, StuckSeparated, Listed, StuckListed}
+use Rattle.mp_words.specs.Grammars.{Grammar, Is, Stuck, after, both, choose, fronted, itself, listed, made, nothing, optional, or_word, row, stands, token}
+use Rattle.mp_words.specs.Fronts.{a_name, is_mark, name_at, with_place}
 
--- a variable: its name, and its number where its name is `x` and a number
-abbrev pub IsVariable : Sym × Option ℕ → List Word → List Word → Type 0
-IsVariable v ts rest = ts ≡ word.SmallVar v.0 v.1 ∷ rest
+-- a variable at a place, if what is written is one
+abbrev pub written_variable : ℕ → What → Option RawTerm
+written_variable at (what.SmallVar n k) = Some (Var n k at)
+written_variable at other = None
 
--- a number or a string
-abbrev pub IsParamWord : Param → List Word → List Word → Type 0
-IsParamWord (param.Num n) ts rest = ts ≡ word.Num n ∷ rest
-IsParamWord (param.Str s) ts rest = ts ≡ word.Str s ∷ rest
+-- the variable that the word is
+abbrev pub variable_at : Word → Option RawTerm
+variable_at w = written_variable w.at w.what
 
--- a parameter, and its place
-abbrev pub IsParam : RawParam → List Word → List Word → Type 0
-IsParam p ts rest = IsParamWord p.value ts rest × (p.left ≡ length ts)
+-- a parameter at a place, if what is written is a number or a string
+abbrev pub written_param : ℕ → What → Option RawParam
+written_param at (what.Num n) = Some (record { value = Num n; at = at })
+written_param at (what.Str s) = Some (record { value = Str s; at = at })
+written_param at other = None
+
+-- the number or the string that the word is
+abbrev pub param_at : Word → Option RawParam
+param_at w = written_param w.at w.what
 
 -- [ param (; param)* ], or nothing
-abbrev pub AreParams : List RawParam → List Word → List Word → Type 0
-AreParams = Optional (IsMark mark.OpenBracket) [] (Separated IsParam (IsMark mark.Semicolon) (IsMark mark.CloseBracket))
-
--- where parameters are stuck: after their bracket, if that stands
-abbrev pub StuckParams : List Word → List Word → Type 0
-StuckParams = StuckOptional (IsMark mark.OpenBracket) (StuckSeparated IsParam (Lacks IsParam) (IsMark mark.Semicolon) (IsMark mark.CloseBracket))
-
--- `,` or `.` stands at the front
-abbrev pub marks_binders : List Word → Bool
-marks_binders (word.Mark mark.Comma ∷ ts) = true
-marks_binders (word.Mark mark.Dot ∷ ts) = true
-marks_binders other = false
+abbrev pub params : Grammar Word (List RawParam)
+params = optional (is_mark mark.OpenBracket) [] (row (token param_at) (is_mark mark.Semicolon) (is_mark mark.CloseBracket))
 
 -- a name begins binders exactly where `,` or `.` follows
 abbrev pub begins_binders : List Word → Bool
-begins_binders (word.Small n k ∷ ts) = marks_binders ts
-begins_binders other = false
+begins_binders ts = stands name_at ts && (fronted (is_mark mark.Comma) (drop 1 ts) || fronted (is_mark mark.Dot) (drop 1 ts))
 
 -- name (, name)* .
-abbrev pub AreSomeBinders : List RawName → List Word → List Word → Type 0
-AreSomeBinders = Separated IsNameAt (IsMark mark.Comma) (IsMark mark.Dot)
+abbrev pub some_binders : Grammar Word (List RawName)
+some_binders = row a_name (is_mark mark.Comma) (is_mark mark.Dot)
 
 -- binders where they begin, else none
-abbrev pub AreBinders : List RawName → List Word → List Word → Type 0
-AreBinders bs ts rest = ((begins_binders ts ≡ false) × (bs ≡ []) × (rest ≡ ts)) ⊎ ((begins_binders ts ≡ true) × AreSomeBinders bs ts rest)
+abbrev pub binders : Grammar Word (List RawName)
+binders = choose begins_binders some_binders (nothing [])
 
--- where binders are stuck: only if they begin
-abbrev pub StuckBinders : List Word → List Word → Type 0
-StuckBinders ts rest = (begins_binders ts ≡ true) × StuckSeparated IsNameAt (Lacks IsNameAt) (IsMark mark.Comma) (IsMark mark.Dot) ts rest
+-- a subterm, of its binders and its body
+abbrev pub bound_of : List RawName × RawTerm → RawBound
+bound_of p = record { binders = p.0; body = p.1 }
 
-mutual
-  -- the term stands at the front of the words, and these are left
-  pub data IsTerm : RawTerm → List Word → List Word → Type 0 where
-    variable : (t : RawTerm) (ts rest : List Word) (n : Sym) (k : Option ℕ) → t ≡ Var n k (length ts) → IsVariable (n, k) ts rest → IsTerm t ts rest
-    operator : (t : RawTerm) (ts rest : List Word) (n : Sym) (ps : List RawParam) (ks : List RawBound) (us vs : List Word) → t ≡ Op n ps ks (length ts) → IsName n ts us → AreParams ps us vs → AreSubs ks vs rest → IsTerm t ts rest
+-- an operator, of its name, its parameters and its subterms
+abbrev pub operator_of : RawName × (List RawParam × List RawBound) → RawTerm
+operator_of p = Op p.0.name p.1.0 p.1.1 p.0.at
 
-  -- the subterms in braces, or nothing
-  pub data AreSubs : List RawBound → List Word → List Word → Type 0 where
-    no_subs : (ks : List RawBound) (ts rest : List Word) → ks ≡ [] → No (IsMark mark.OpenBrace) ts → rest ≡ ts → AreSubs ks ts rest
-    some_subs : (ks : List RawBound) (ts rest : List Word) (us : List Word) → IsMark mark.OpenBrace ts us → AreBounds ks us rest → AreSubs ks ts rest
+-- a hypothesis, of its name and its term
+abbrev pub hyp_of : RawName × RawTerm → RawHyp
+hyp_of p = record { name = p.0.name; term = p.1; at = p.0.at }
 
-  -- the subterms one after the other, and then the end of their list
-  pub data AreBounds : List RawBound → List Word → List Word → Type 0 where
-    last_bound : (ks : List RawBound) (ts rest : List Word) (k : RawBound) (us : List Word) → ks ≡ k ∷ [] → IsBound k ts us → IsMark mark.CloseBrace us rest → AreBounds ks ts rest
-    more_bounds : (ks : List RawBound) (ts rest : List Word) (k : RawBound) (others : List RawBound) (us vs : List Word) → ks ≡ k ∷ others → IsBound k ts us → IsMark mark.Semicolon us vs → AreBounds others vs rest → AreBounds ks ts rest
+-- a sequent, of its place, its hypotheses and its conclusion
+abbrev pub sequent_of : ℕ × (List RawHyp × RawTerm) → RawSequent
+sequent_of p = record { hyps = p.1.0; concl = p.1.1; at = p.0 }
 
-  -- binders where they begin, and a term
-  pub data IsBound : RawBound → List Word → List Word → Type 0 where
-    bound : (k : RawBound) (ts rest : List Word) (us : List Word) → AreBinders k.binders ts us → IsTerm k.body us rest → IsBound k ts rest
+-- binders where they begin, and a term
+abbrev pub bound_by : Grammar Word RawTerm → Grammar Word RawBound
+bound_by g = made bound_of (both binders g)
 
-mutual
-  -- a reading of a term ends at the first of these words
-  pub data StuckTerm : List Word → List Word → Type 0 where
-    no_name : (ts rest : List Word) → None_of IsVariable ts → None_of IsName ts → rest ≡ ts → StuckTerm ts rest
-    in_params : (ts rest : List Word) (n : Sym) (us : List Word) → IsName n ts us → StuckParams us rest → StuckTerm ts rest
-    in_subs : (ts rest : List Word) (n : Sym) (ps : List RawParam) (us vs : List Word) → IsName n ts us → AreParams ps us vs → StuckSubs vs rest → StuckTerm ts rest
+-- bound (; bound)* }
+abbrev pub bounds_by : Grammar Word RawTerm → Grammar Word (List RawBound)
+bounds_by g = row (bound_by g) (is_mark mark.Semicolon) (is_mark mark.CloseBrace)
 
-  -- where the subterms in braces are stuck: after their brace, if that stands
-  pub data StuckSubs : List Word → List Word → Type 0 where
-    in_braces : (ts rest : List Word) (us : List Word) → IsMark mark.OpenBrace ts us → StuckBounds us rest → StuckSubs ts rest
+-- { bound (; bound)* }, or nothing
+abbrev pub subs_by : Grammar Word RawTerm → Grammar Word (List RawBound)
+subs_by g = optional (is_mark mark.OpenBrace) [] (bounds_by g)
 
-  -- where subterms up to the end of their list are stuck
-  pub data StuckBounds : List Word → List Word → Type 0 where
-    in_bound : (ts rest : List Word) → StuckBound ts rest → StuckBounds ts rest
-    behind_bound : (ts rest : List Word) (k : RawBound) → IsBound k ts rest → No (IsMark mark.CloseBrace) rest → No (IsMark mark.Semicolon) rest → StuckBounds ts rest
-    in_other_bounds : (ts rest : List Word) (k : RawBound) (us vs : List Word) → IsBound k ts us → IsMark mark.Semicolon us vs → StuckBounds vs rest → StuckBounds ts rest
+-- name params? subs?
+abbrev pub operator_by : Grammar Word RawTerm → Grammar Word RawTerm
+operator_by g = made operator_of (both a_name (both params (subs_by g)))
 
-  -- where a subterm is stuck: in its binders or in its body
-  pub data StuckBound : List Word → List Word → Type 0 where
-    in_binders : (ts rest : List Word) → StuckBinders ts rest → StuckBound ts rest
-    in_body : (ts rest : List Word) (bs : List RawName) (us : List Word) → AreBinders bs ts us → StuckTerm us rest → StuckBound ts rest
+-- the two forms of a term, over a grammar of terms
+abbrev pub term_by : Grammar Word RawTerm → Grammar Word RawTerm
+term_by g = or_word variable_at (operator_by g)
+
+-- a variable, or a name with its parameters and subterms
+unfoldable pub term : Grammar Word RawTerm
+term = itself term_by
+
+-- a term behind its binders
+abbrev pub bound : Grammar Word RawBound
+bound = bound_by term
 
 -- name : term
-abbrev pub IsHyp : RawHyp → List Word → List Word → Type 0
-IsHyp h ts rest = Both IsName (After (IsMark mark.Colon) IsTerm) (h.name, h.term) ts rest × (h.left ≡ length ts)
-
--- where a hypothesis is stuck
-abbrev pub StuckHyp : List Word → List Word → Type 0
-StuckHyp = StuckBoth IsName (Lacks IsName) (StuckAfter (IsMark mark.Colon) StuckTerm)
+abbrev pub hyp : Grammar Word RawHyp
+hyp = made hyp_of (both a_name (after (is_mark mark.Colon) term))
 
 -- the hypotheses and `>-`, or `>-` at once
-abbrev pub AreHyps : List RawHyp → List Word → List Word → Type 0
-AreHyps = Listed IsHyp (IsMark mark.Semicolon) (IsMark mark.Turnstile)
-
--- where hypotheses are stuck: only if `>-` doesn't stand at once
-abbrev pub StuckHyps : List Word → List Word → Type 0
-StuckHyps = StuckListed IsHyp StuckHyp (IsMark mark.Semicolon) (IsMark mark.Turnstile)
+abbrev pub hyps : Grammar Word (List RawHyp)
+hyps = listed hyp (is_mark mark.Semicolon) (is_mark mark.Turnstile)
 
 -- hypotheses, >- and the conclusion
-abbrev pub IsSequent : RawSequent → List Word → List Word → Type 0
-IsSequent s ts rest = Both AreHyps IsTerm (s.hyps, s.concl) ts rest × (s.left ≡ length ts)
+abbrev pub sequent : Grammar Word RawSequent
+sequent = made sequent_of (with_place (both hyps term))
 
--- where a sequent is stuck: in its hypotheses or in its conclusion
+-- the term stands at the front of the words, and these are left
+abbrev pub IsTerm : RawTerm → List Word → List Word → Type 0
+IsTerm = Is term
+
+-- a reading of a term ends at the first of these words
+abbrev pub StuckTerm : List Word → List Word → Type 0
+StuckTerm = Stuck term
+
+-- the term with its binders stands at the front of the words, and these are left
+abbrev pub IsBound : RawBound → List Word → List Word → Type 0
+IsBound = Is bound
+
+-- a reading of a term with its binders ends at the first of these words
+abbrev pub StuckBound : List Word → List Word → Type 0
+StuckBound = Stuck bound
+
+-- the sequent stands at the front of the words, and these are left
+abbrev pub IsSequent : RawSequent → List Word → List Word → Type 0
+IsSequent = Is sequent
+
+-- a reading of a sequent ends at the first of these words
 abbrev pub StuckSequent : List Word → List Word → Type 0
-StuckSequent = StuckBoth AreHyps StuckHyps StuckTerm
+StuckSequent = Stuck sequent

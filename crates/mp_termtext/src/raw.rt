@@ -2,11 +2,11 @@ use mp_logic::{List, Sym};
 use mp_term::Param;
 use mp_words::RawName;
 
-/// A parameter as it is written, and how many words are left where it stands.
+/// A parameter as it is written, and its first byte.
 #[derive(Clone, Copy, Debug, PartialEq, Eq)]
 pub struct RawParam {
     pub value: Param,
-    pub left: u64,
+    pub at: u32,
 }
 
 /// A subterm as it is written, behind its binders.
@@ -17,8 +17,7 @@ pub struct RawBound {
     pub body: RawTerm,
 }
 
-/// A term as it is written, with names in place of levels. Each node knows how many words are left where it
-/// begins.
+/// A term as it is written, with names in place of levels. Each node knows its first byte.
 #[cycle(raw)]
 #[derive(Drop)]
 pub enum RawTerm {
@@ -26,28 +25,28 @@ pub enum RawTerm {
     Var {
         name: Sym,
         numbered: Option<u32>,
-        left: u64,
+        at: u32,
     },
     Op {
         name: Sym,
         params: List<RawParam>,
         subs: List<RawBound>,
-        left: u64,
+        at: u32,
     },
 }
 
-/// A hypothesis as it is written, and how many words are left where its name stands.
+/// A hypothesis as it is written, and the first byte of its name.
 #[derive(Drop)]
 pub struct RawHyp {
     pub name: Sym,
     pub term: RawTerm,
-    pub left: u64,
+    pub at: u32,
 }
 
-/// A sequent as it is written, and how many words are left where it begins.
+/// A sequent as it is written, and its first byte.
 #[derive(Drop)]
 pub struct RawSequent {
     pub hyps: List<RawHyp>,
     pub concl: RawTerm,
-    pub left: u64,
+    pub at: u32,
 }

@@ -7,7 +7,7 @@ use crate::value::{build_sequent, build_whole_term};
 use crate::{RawSequent, RawTerm};
 use mp_names::Names;
 use mp_term::{Sequent, Term};
-use mp_words::{TextFail, lex_text, whole};
+use mp_words::{TextFail, lex_text, stopped, whole};
 use std::alloc::Global;
 
 /// Reads a term that is all of the text, where the names `x1` to `x` followed by `scope` are free: `x1` is
@@ -27,13 +27,13 @@ pub fn read_term(
     ensures grown { Extends names.old names.new }
     ensures few { length names.new ≤ length names.old + length source.now }
 {
-    let text = lex_text(alloc, names, source)?;
-    let raw = match whole::<RawTerm>(alloc, text.words.as_slice()) {
+    let words = lex_text(alloc, names, source)?;
+    let raw = match whole::<RawTerm>(alloc, words.as_slice()) {
         Ok(raw) => raw,
-        Err(fail) => return Err(text.stopped(source, fail)),
+        Err(fail) => return Err(stopped(source, fail)),
     };
     if let Some(fault) = term_fault(alloc, &raw, scope)? {
-        return Err(text.broken(source, fault));
+        return Err(TextFail::Bad(fault));
     }
     let term = build_whole_term(alloc, &raw, scope)?;
     Ok(term)
@@ -48,13 +48,13 @@ pub fn read_sequent(alloc: Global, names: &mut Names, source: &[u8]) -> Result<S
     ensures grown { Extends names.old names.new }
     ensures few { length names.new ≤ length names.old + length source.now }
 {
-    let text = lex_text(alloc, names, source)?;
-    let raw = match whole::<RawSequent>(alloc, text.words.as_slice()) {
+    let words = lex_text(alloc, names, source)?;
+    let raw = match whole::<RawSequent>(alloc, words.as_slice()) {
         Ok(raw) => raw,
-        Err(fail) => return Err(text.stopped(source, fail)),
+        Err(fail) => return Err(stopped(source, fail)),
     };
     if let Some(fault) = check_sequent(alloc, &raw, None)? {
-        return Err(text.broken(source, fault));
+        return Err(TextFail::Bad(fault));
     }
     let sequent = build_sequent(alloc, &raw)?;
     Ok(sequent)

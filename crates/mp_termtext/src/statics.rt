@@ -2,12 +2,12 @@ ghost use Rattle.std.specs.Prelude.{◌≡◌, ◌+◌, ◌++◌, ℕ, [], None,
 ghost use Rattle.mp_logic.specs.Trees.{counted};
 ghost use Rattle.mp_words.specs.declared.fail.TextWhy.TheVariants as why;
 ghost use Rattle.mp_words.specs.Faults.{fault_if, least, least_from, too_many};
-ghost use Rattle.mp_termtext.specs.Statics.{bound_faults_of, bound_term_faults, deep, faults_of, hyp_names, hyps_faults, left_of, level_of, raw_sequent_size_of, raw_size_of, sequent_faults, term_faults, unless_bound};
+ghost use Rattle.mp_termtext.specs.Statics.{bound_faults_of, bound_term_faults, deep, faults_of, hyp_names, hyps_faults, at_of, level_of, raw_sequent_size_of, raw_size_of, sequent_faults, term_faults, unless_bound};
 
 use crate::scope::{level_of, push_names};
 use crate::{RawBound, RawHyp, RawSequent, RawTerm};
 use mp_logic::{List, NoMemory, Sym};
-use mp_words::{Fault, TextWhy, behind, sooner_of};
+use mp_words::{TextErr, TextWhy, behind, sooner_of};
 use std::alloc::Global;
 
 /// The depth that stands for all that are too great.
@@ -27,11 +27,11 @@ const MOST_NODES: u64 = 20000;
 
 /// The sooner one of the fault that is held and TooDeep, for a node at this depth or, at TOO_DEEP, a greater
 /// one.
-fn check_depth(held: Option<Fault>, depth: u64, left: u64) -> Option<Fault>
-    ensures { (d : ℕ) → min d TOO_DEEP ≡ depth → result ≡ least_from held (deep d left) }
+fn check_depth(held: Option<TextErr>, depth: u64, at: u32) -> Option<TextErr>
+    ensures { (d : ℕ) → min d TOO_DEEP ≡ depth → result ≡ least_from held (deep d at) }
 {
     if depth == TOO_DEEP {
-        sooner_of(held, left, TextWhy::TooDeep)
+        sooner_of(held, at, TextWhy::TooDeep)
     } else {
         held
     }
@@ -41,19 +41,19 @@ fn check_depth(held: Option<Fault>, depth: u64, left: u64) -> Option<Fault>
 // hypotheses is still linear.
 #[tactic(auto, using(crate::proofs::Unbound::unbound_behind))]
 fn check_variable(
-    held: Option<Fault>,
+    held: Option<TextErr>,
     free: u32,
     env: &[Sym],
     name: Sym,
     numbered: Option<u32>,
-    left: u64,
-) -> Option<Fault>
-    ensures { result ≡ least_from held (unless_bound left (level_of free env.now name numbered)) }
+    at: u32,
+) -> Option<TextErr>
+    ensures { result ≡ least_from held (unless_bound at (level_of free env.now name numbered)) }
 {
-    if behind(held, left) || level_of(free, env, name, numbered).is_some() {
+    if behind(held, at) || level_of(free, env, name, numbered).is_some() {
         held
     } else {
-        sooner_of(held, left, TextWhy::UnboundVar)
+        sooner_of(held, at, TextWhy::UnboundVar)
     }
 }
 
@@ -64,29 +64,25 @@ fn check_in(
     free: u32,
     env: &mut Vec<Sym>,
     depth: u64,
-    held: Option<Fault>,
-) -> Result<Option<Fault>, NoMemory>
+    held: Option<TextErr>,
+) -> Result<Option<TextErr>, NoMemory>
     ensures fault { IfOk result (λ found. (d : ℕ) → min d TOO_DEEP ≡ depth → found ≡ least_from held (faults_of free raw.now env.old.items d)) }
     ensures env { OnOk result (env.new.items ≡ env.old.items) }
 {
     match raw {
-        RawTerm::Var {
-            name,
-            numbered,
-            left,
-        } => {
-            let held = check_depth(held, depth, *left);
-            Ok(check_variable(held, free, env.as_slice(), *name, *numbered, *left))
+        RawTerm::Var { name, numbered, at } => {
+            let held = check_depth(held, depth, *at);
+            Ok(check_variable(held, free, env.as_slice(), *name, *numbered, *at))
         }
         RawTerm::Op {
             params,
             subs,
-            left,
+            at,
             ..
         } => {
-            let mut held = check_depth(held, depth, *left);
+            let mut held = check_depth(held, depth, *at);
             if let Some(param) = params.get(MOST_PARAMS) {
-                held = sooner_of(held, param.left, TextWhy::TooMany);
+                held = sooner_of(held, param.at, TextWhy::TooMany);
             }
             let inner = depth.saturating_add(1).min(TOO_DEEP);
             for sub in subs.as_slice() {
@@ -104,13 +100,13 @@ fn check_bound(
     free: u32,
     env: &mut Vec<Sym>,
     depth: u64,
-    held: Option<Fault>,
-) -> Result<Option<Fault>, NoMemory>
+    held: Option<TextErr>,
+) -> Result<Option<TextErr>, NoMemory>
     ensures fault { IfOk result (λ found. (d : ℕ) → min d TOO_DEEP ≡ depth → found ≡ least_from held (bound_faults_of free raw.now env.old.items d)) }
     ensures env { OnOk result (env.new.items ≡ env.old.items) }
 {
     let held = match raw.binders.get(MOST_BINDERS) {
-        Some(binder) => sooner_of(held, binder.left, TextWhy::TooMany),
+        Some(binder) => sooner_of(held, binder.at, TextWhy::TooMany),
         None => held,
     };
     let outer = env.len();
@@ -136,54 +132,58 @@ fn raw_size(raw: &RawTerm) -> u64
     }
 }
 
-/// How many words are left where the term begins.
-pub fn left_of(raw: &RawTerm) -> u64
-    ensures { result ≡ left_of raw.now }
+/// The first byte of the term.
+pub fn at_of(raw: &RawTerm) -> u32
+    ensures { result ≡ at_of raw.now }
 {
     match raw {
-        RawTerm::Var { left, .. } => *left,
-        RawTerm::Op { left, .. } => *left,
+        RawTerm::Var { at, .. } => *at,
+        RawTerm::Op { at, .. } => *at,
     }
 }
 
 /// The sooner one of the fault that is held and TooBig, for a whole of so many nodes.
-fn check_size(held: Option<Fault>, size: u64, left: u64) -> Option<Fault>
-    ensures { (n : ℕ) → counted n ≡ size → result ≡ least_from held (fault_if (nat_lt 20000 n) left why.TooBig) }
+fn check_size(held: Option<TextErr>, size: u64, at: u32) -> Option<TextErr>
+    ensures { (n : ℕ) → counted n ≡ size → result ≡ least_from held (fault_if (nat_lt 20000 n) at why.TooBig) }
 {
     if size > MOST_NODES {
-        sooner_of(held, left, TextWhy::TooBig)
+        sooner_of(held, at, TextWhy::TooBig)
     } else {
         held
     }
 }
 
 /// The soonest of the fault that is held and those of a term behind its binders that stands by itself, where so many
-/// names are free and which begins where `left` words are left: more than 8 binders, the faults of the term's nodes, and
+/// names are free and which begins at this byte: more than 8 binders, the faults of the term's nodes, and
 /// more than 20,000 nodes.
 #[tactic(auto, using(mp_words::proofs::Soonest::least_from_append))]
 pub fn check_bound_term(
     alloc: Global,
     raw: &RawBound,
     free: u32,
-    left: u64,
-    held: Option<Fault>,
-) -> Result<Option<Fault>, NoMemory>
-    ensures { IfOk result (λ found. found ≡ least_from held (bound_term_faults free left raw.now)) }
+    at: u32,
+    held: Option<TextErr>,
+) -> Result<Option<TextErr>, NoMemory>
+    ensures { IfOk result (λ found. found ≡ least_from held (bound_term_faults free at raw.now)) }
 {
     let mut env = Vec::new(alloc);
     let held = check_bound(raw, free, &mut env, 1, held)?;
-    Ok(check_size(held, raw_size(&raw.body), left))
+    Ok(check_size(held, raw_size(&raw.body), at))
 }
 
 /// The least static fault of a term that is all of a text, where so many names are free. None exactly where
 /// it has none.
 #[tactic(auto, using(mp_words::proofs::Soonest::least_from_append))]
-pub(crate) fn term_fault(alloc: Global, raw: &RawTerm, free: u32) -> Result<Option<Fault>, NoMemory>
+pub(crate) fn term_fault(
+    alloc: Global,
+    raw: &RawTerm,
+    free: u32,
+) -> Result<Option<TextErr>, NoMemory>
     ensures { IfOk result (λ found. found ≡ least (term_faults free raw.now)) }
 {
     let mut env = Vec::new(alloc);
     let held = check_in(raw, free, &mut env, 1, None)?;
-    Ok(check_size(held, raw_size(raw), left_of(raw)))
+    Ok(check_size(held, raw_size(raw), at_of(raw)))
 }
 
 fn hyps_size(hyps: &[RawHyp]) -> u64
@@ -201,8 +201,8 @@ fn hyps_size(hyps: &[RawHyp]) -> u64
 fn check_hyps(
     hyps: &[RawHyp],
     env: &mut Vec<Sym>,
-    held: Option<Fault>,
-) -> Result<Option<Fault>, NoMemory>
+    held: Option<TextErr>,
+) -> Result<Option<TextErr>, NoMemory>
     requires { env.old.items ≡ [] }
     ensures fault { IfOk result (λ found. found ≡ least_from held (hyps_faults hyps.now [])) }
     ensures env { OnOk result (env.new.items ≡ hyp_names hyps.now) }
@@ -218,11 +218,11 @@ fn check_hyps(
 }
 
 /// The sooner one of the fault that is held and TooMany, at the first hypothesis that is one too many.
-fn check_count(hyps: &[RawHyp], held: Option<Fault>) -> Option<Fault>
-    ensures { result ≡ least_from held (too_many (λ h. h.left) 200 hyps.now) }
+fn check_count(hyps: &[RawHyp], held: Option<TextErr>) -> Option<TextErr>
+    ensures { result ≡ least_from held (too_many (λ h. h.at) 200 hyps.now) }
 {
     match hyps.get(MOST_HYPS) {
-        Some(hyp) => sooner_of(held, hyp.left, TextWhy::TooMany),
+        Some(hyp) => sooner_of(held, hyp.at, TextWhy::TooMany),
         None => held,
     }
 }
@@ -233,8 +233,8 @@ fn check_count(hyps: &[RawHyp], held: Option<Fault>) -> Option<Fault>
 pub fn check_sequent(
     alloc: Global,
     raw: &RawSequent,
-    held: Option<Fault>,
-) -> Result<Option<Fault>, NoMemory>
+    held: Option<TextErr>,
+) -> Result<Option<TextErr>, NoMemory>
     ensures { IfOk result (λ found. found ≡ least_from held (sequent_faults raw.now)) }
 {
     let held = check_count(raw.hyps.as_slice(), held);
@@ -242,5 +242,5 @@ pub fn check_sequent(
     let held = check_hyps(raw.hyps.as_slice(), &mut env, held)?;
     let held = check_in(&raw.concl, 0, &mut env, 1, held)?;
     let size = hyps_size(raw.hyps.as_slice()).saturating_add(raw_size(&raw.concl));
-    Ok(check_size(held, size, raw.left))
+    Ok(check_size(held, size, raw.at))
 }

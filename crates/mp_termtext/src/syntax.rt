@@ -1,19 +1,46 @@
-ghost use Rattle.std.specs.Prelude.{◌≡◌, ◌+◌, ◌<◌, ◌≤◌, [], length, IfOk, MatchOption};
-ghost use Rattle.mp_words.specs.Parts.{None_of, Lacks, Reads};
-ghost use Rattle.mp_termtext.specs.Grammar.{IsVariable, IsParam, AreParams, StuckParams, begins_binders, AreBinders, StuckBinders, IsTerm, StuckTerm, AreSubs, StuckSubs, AreBounds, StuckBounds, IsBound, StuckBound, IsHyp, StuckHyp, IsSequent, StuckSequent};
+ghost use Rattle.std.specs.Prelude.{◌≡◌, ◌<◌, ◌≤◌, [], length, drop, IfOk, MatchOption, None, Some};
+ghost use Rattle.mp_words.specs.Grammars.{after, both, made, then_read, stands, taken, token};
+ghost use Rattle.mp_words.specs.Reading.{Reads};
+ghost use Rattle.mp_termtext.specs.Grammar.{variable_at, param_at, params, begins_binders, binders, bound, bounds_by, hyp, sequent, subs_by, term};
 
 use crate::raw::{RawBound, RawHyp, RawParam, RawSequent, RawTerm};
-use mp_logic::{List, Sym};
+use mp_logic::List;
 use mp_term::Param;
-use mp_words::{Mark, RawName, ReadFail, Reader, Word, listed, mark, name, separated, stuck};
+use mp_words::{
+    Mark, RawName, ReadFail, Reader, What, Word, front, listed, mark, marked, name_at, separated,
+    stuck,
+};
 use std::alloc::Global;
 
-/// The variable at the front, by its name and its number, and what is behind it.
-pub fn variable(words: &[Word]) -> Option<(Sym, Option<u32>, &[Word])>
-    ensures { MatchOption result (None_of IsVariable words.now) (λ p. IsVariable (p.0, p.1) words.now p.2.now) }
+/// The variable at the front, and what is behind it.
+fn variable(words: &[Word]) -> Option<(RawTerm, &[Word])>
+    ensures { MatchOption result (taken variable_at words.now ≡ None) (λ p. (taken variable_at words.now ≡ Some p.0) × (p.1.now ≡ drop 1 words.now)) }
 {
-    match words.split_first() {
-        Some((Word::SmallVar { name, numbered }, rest)) => Some((*name, *numbered, rest)),
+    let (word, rest) = words.split_first()?;
+    match word.what {
+        What::SmallVar { name, numbered } => {
+            let at = word.at;
+            Some((RawTerm::Var { name, numbered, at }, rest))
+        }
+        _ => None,
+    }
+}
+
+/// The number or the string at the front, and what is behind it.
+pub fn param_at(words: &[Word]) -> Option<(RawParam, &[Word])>
+    ensures { MatchOption result (taken param_at words.now ≡ None) (λ p. (taken param_at words.now ≡ Some p.0) × (p.1.now ≡ drop 1 words.now)) }
+{
+    let (word, rest) = words.split_first()?;
+    let at = word.at;
+    match word.what {
+        What::Num(number) => {
+            let value = Param::Num(number);
+            Some((RawParam { value, at }, rest))
+        }
+        What::Str(text) => {
+            let value = Param::Str(text);
+            Some((RawParam { value, at }, rest))
+        }
         _ => None,
     }
 }
@@ -21,33 +48,20 @@ pub fn variable(words: &[Word]) -> Option<(Sym, Option<u32>, &[Word])>
 impl Reader for RawParam {
     type Raw = RawParam;
 
-    ghost is = { IsParam };
-
-    ghost stops = { Lacks IsParam };
+    ghost grammar = { token param_at };
 
     /// Reads a number or a string.
     fn read(_alloc: Global, words: &[Word]) -> Result<(RawParam, &[Word]), ReadFail> {
-        let left = words.len() as u64;
-        match words.split_first() {
-            Some((Word::Num(number), rest)) => {
-                let value = Param::Num(*number);
-                Ok((RawParam { value, left }, rest))
-            }
-            Some((Word::Str(text), rest)) => {
-                let value = Param::Str(*text);
-                Ok((RawParam { value, left }, rest))
-            }
-            _ => Err(stuck(words)),
+        match param_at(words) {
+            Some(read) => Ok(read),
+            None => Err(stuck(words)),
         }
     }
 }
 
 /// Reads parameters between brackets; there are none where no bracket opens.
-pub(crate) fn parse_params(
-    alloc: Global,
-    words: &[Word],
-) -> Result<(List<RawParam>, &[Word]), ReadFail>
-    ensures reads { Reads (λ x. (x.0, x.1.now)) AreParams StuckParams words.now result }
+fn parse_params(alloc: Global, words: &[Word]) -> Result<(List<RawParam>, &[Word]), ReadFail>
+    ensures reads { Reads (λ x. (x.0, x.1.now)) params words.now result }
     ensures within { IfOk result (λ x. length x.1.now ≤ length words.now) }
 {
     match mark(words, Mark::OpenBracket) {
@@ -57,21 +71,18 @@ pub(crate) fn parse_params(
 }
 
 /// Whether binders begin at the front: a name before `,` or `.`.
-pub(crate) fn binders_ahead(words: &[Word]) -> bool
+fn binders_ahead(words: &[Word]) -> bool
     ensures { result ≡ begins_binders words.now }
 {
-    let Some((Word::Small { .. }, rest)) = words.split_first() else {
+    let Some((_, rest)) = name_at(words) else {
         return false;
     };
-    match rest.split_first() {
-        Some((Word::Mark(found), _)) => *found == Mark::Comma || *found == Mark::Dot,
-        _ => false,
-    }
+    marked(rest, Mark::Comma) || marked(rest, Mark::Dot)
 }
 
 /// Reads binders and the dot behind them; there are none where no binders begin.
 pub fn parse_binders(alloc: Global, words: &[Word]) -> Result<(List<RawName>, &[Word]), ReadFail>
-    ensures reads { Reads (λ x. (x.0, x.1.now)) AreBinders StuckBinders words.now result }
+    ensures reads { Reads (λ x. (x.0, x.1.now)) binders words.now result }
     ensures within { IfOk result (λ x. length x.1.now ≤ length words.now) }
 {
     if binders_ahead(words) {
@@ -84,21 +95,13 @@ pub fn parse_binders(alloc: Global, words: &[Word]) -> Result<(List<RawName>, &[
 /// Reads a term at the front of the words.
 #[cycle(parsing)]
 pub(crate) fn parse_term(alloc: Global, words: &[Word]) -> Result<(RawTerm, &[Word]), ReadFail>
-    ensures reads { Reads (λ x. (x.0, x.1.now)) IsTerm StuckTerm words.now result }
+    ensures reads { Reads (λ x. (x.0, x.1.now)) term words.now result }
     ensures shorter { IfOk result (λ x. length x.1.now < length words.now) }
 {
-    let left = words.len() as u64;
-    if let Some((name, numbered, rest)) = variable(words) {
-        return Ok((
-            RawTerm::Var {
-                name,
-                numbered,
-                left,
-            },
-            rest,
-        ));
+    if let Some(read) = variable(words) {
+        return Ok(read);
     }
-    let Some((name, rest)) = name(words) else {
+    let Some((RawName { name, at }, rest)) = name_at(words) else {
         return Err(stuck(words));
     };
     let (params, rest) = match parse_params(alloc, rest) {
@@ -111,7 +114,7 @@ pub(crate) fn parse_term(alloc: Global, words: &[Word]) -> Result<(RawTerm, &[Wo
                 name,
                 params,
                 subs,
-                left,
+                at,
             },
             rest,
         )),
@@ -122,7 +125,7 @@ pub(crate) fn parse_term(alloc: Global, words: &[Word]) -> Result<(RawTerm, &[Wo
 /// Reads subterms between braces; there are none where no brace opens.
 #[cycle(parsing)]
 fn parse_subs(alloc: Global, words: &[Word]) -> Result<(List<RawBound>, &[Word]), ReadFail>
-    ensures reads { Reads (λ x. (x.0, x.1.now)) AreSubs StuckSubs words.now result }
+    ensures reads { Reads (λ x. (x.0, x.1.now)) (subs_by term) words.now result }
     ensures within { IfOk result (λ x. length x.1.now ≤ length words.now) }
 {
     match mark(words, Mark::OpenBrace) {
@@ -134,7 +137,7 @@ fn parse_subs(alloc: Global, words: &[Word]) -> Result<(List<RawBound>, &[Word])
 /// Reads subterms up to the end of their list.
 #[cycle(parsing)]
 fn parse_bounds(alloc: Global, words: &[Word]) -> Result<(List<RawBound>, &[Word]), ReadFail>
-    ensures reads { Reads (λ x. (x.0, x.1.now)) AreBounds StuckBounds words.now result }
+    ensures reads { Reads (λ x. (x.0, x.1.now)) (bounds_by term) words.now result }
     ensures shorter { IfOk result (λ x. length x.1.now < length words.now) }
 {
     let mut subs = List::new(alloc);
@@ -161,7 +164,7 @@ fn parse_bounds(alloc: Global, words: &[Word]) -> Result<(List<RawBound>, &[Word
 /// Reads a term with its binders, if any.
 #[cycle(parsing)]
 pub fn parse_bound(alloc: Global, words: &[Word]) -> Result<(RawBound, &[Word]), ReadFail>
-    ensures reads { Reads (λ x. (x.0, x.1.now)) IsBound StuckBound words.now result }
+    ensures reads { Reads (λ x. (x.0, x.1.now)) bound words.now result }
     ensures shorter { IfOk result (λ x. length x.1.now < length words.now) }
 {
     let (binders, rest) = match parse_binders(alloc, words) {
@@ -177,21 +180,18 @@ pub fn parse_bound(alloc: Global, words: &[Word]) -> Result<(RawBound, &[Word]),
 impl Reader for RawHyp {
     type Raw = RawHyp;
 
-    ghost is = { IsHyp };
-
-    ghost stops = { StuckHyp };
+    ghost grammar = { hyp };
 
     /// Reads a name, a colon and a term.
     fn read(alloc: Global, words: &[Word]) -> Result<(RawHyp, &[Word]), ReadFail> {
-        let left = words.len() as u64;
-        let Some((name, at)) = name(words) else {
+        let Some((RawName { name, at }, rest)) = name_at(words) else {
             return Err(stuck(words));
         };
-        let Some(at) = mark(at, Mark::Colon) else {
-            return Err(stuck(at));
+        let Some(rest) = mark(rest, Mark::Colon) else {
+            return Err(stuck(rest));
         };
-        match parse_term(alloc, at) {
-            Ok((term, rest)) => Ok((RawHyp { name, term, left }, rest)),
+        match parse_term(alloc, rest) {
+            Ok((term, rest)) => Ok((RawHyp { name, term, at }, rest)),
             Err(fail) => Err(fail),
         }
     }
@@ -199,16 +199,16 @@ impl Reader for RawHyp {
 
 /// Reads a sequent at the front of the words.
 pub fn parse_sequent(alloc: Global, words: &[Word]) -> Result<(RawSequent, &[Word]), ReadFail>
-    ensures reads { Reads (λ x. (x.0, x.1.now)) IsSequent StuckSequent words.now result }
+    ensures reads { Reads (λ x. (x.0, x.1.now)) sequent words.now result }
     ensures shorter { IfOk result (λ x. length x.1.now < length words.now) }
 {
-    let left = words.len() as u64;
-    let (hyps, at) = match listed::<RawHyp>(alloc, words, Mark::Semicolon, Mark::Turnstile) {
+    let at = front(words);
+    let (hyps, rest) = match listed::<RawHyp>(alloc, words, Mark::Semicolon, Mark::Turnstile) {
         Ok(read) => read,
         Err(fail) => return Err(fail),
     };
-    match parse_term(alloc, at) {
-        Ok((concl, rest)) => Ok((RawSequent { hyps, concl, left }, rest)),
+    match parse_term(alloc, rest) {
+        Ok((concl, rest)) => Ok((RawSequent { hyps, concl, at }, rest)),
         Err(fail) => Err(fail),
     }
 }
@@ -216,9 +216,7 @@ pub fn parse_sequent(alloc: Global, words: &[Word]) -> Result<(RawSequent, &[Wor
 impl Reader for RawTerm {
     type Raw = RawTerm;
 
-    ghost is = { IsTerm };
-
-    ghost stops = { StuckTerm };
+    ghost grammar = { term };
 
     fn read(alloc: Global, words: &[Word]) -> Result<(RawTerm, &[Word]), ReadFail> {
         parse_term(alloc, words)
@@ -228,9 +226,7 @@ impl Reader for RawTerm {
 impl Reader for RawSequent {
     type Raw = RawSequent;
 
-    ghost is = { IsSequent };
-
-    ghost stops = { StuckSequent };
+    ghost grammar = { sequent };
 
     fn read(alloc: Global, words: &[Word]) -> Result<(RawSequent, &[Word]), ReadFail> {
         parse_sequent(alloc, words)

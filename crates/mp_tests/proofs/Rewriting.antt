@@ -11,7 +11,7 @@ use Rattle.mp_schema.specs.Conditions.{below, lists_known, seen}
 use Rattle.mp_schema.specs.Faultless.{IsFaultlessRewrite, RewritesAreFaultless, ConditionsFit}
 use Rattle.mp_schema.specs.Faults.{rewrite_fault_of}
 use Rattle.mp_schema.specs.Instances.{fits}
-use Rattle.mp_schema.specs.Limits.{pattern_depth_of, is_shallow_pattern}
+use Rattle.mp_schema.specs.Limits.{is_shallow_pattern}
 use Rattle.mp_schema.specs.Sequents.{Instance, wide_of}
 use Rattle.mp_schema.specs.Values.{instance_of}
 use Rattle.mp_schema.specs.Solutions.{GivesTerm}

@@ -1,5 +1,6 @@
 //! Tables of strategies, evaluation, the core and the sections of a schedule.
 
+use crate::table::check;
 use crate::toy::Stepless;
 use mp_core::{
     Claimed, Core, Parcel, Reported, copy_parcel, every_call_keeps_sound, every_run_is_sound,
@@ -17,23 +18,24 @@ use std::test::Fail;
 // ## Tables
 
 /// Whether the table of a step by the justification, and then a part that is given, and `id` fits one justification.
-fn three_entries_fit(alloc: Global, second: u32, just: u32) -> Result<bool, Fail> {
+fn three_entries_fit(alloc: Global, second: u32, just: u32) -> Option<bool> {
     let tacs = vec![in alloc;
         Tac::Then(TacId(1), TacId(second)),
         Tac::Step(JustId(just)),
         Tac::Id,
-    ]?;
-    Ok(fits(1, &List::from_vec(tacs)))
+    ]
+    .ok()?;
+    Some(fits(1, &List::from_vec(tacs)))
 }
 
 /// Whether the table of so many entries that use the next one twice, and `id` fits.
-fn pairs_fit(alloc: Global, pairs: u32) -> Result<bool, Fail> {
+fn pairs_fit(alloc: Global, pairs: u32) -> Option<bool> {
     let mut tacs = Vec::new(alloc);
     for at in 0..pairs.min(100) {
-        tacs.push(Tac::Then(TacId(at + 1), TacId(at + 1)))?;
+        tacs.push(Tac::Then(TacId(at + 1), TacId(at + 1))).ok()?;
     }
-    tacs.push(Tac::Id)?;
-    Ok(fits(0, &List::from_vec(tacs)))
+    tacs.push(Tac::Id).ok()?;
+    Some(fits(0, &List::from_vec(tacs)))
 }
 
 /// The second part of the first entry, its justification, and whether the table fits.
@@ -45,34 +47,39 @@ static ENTRIES: [(u32, u32, bool); 5] = [
     (2, 1, false),
 ];
 
+fn is_fit(alloc: Global, row: &(u32, u32, bool)) -> Option<bool> {
+    let (second, just, due) = row;
+    Some(three_entries_fit(alloc, *second, *just)? == *due)
+}
+
 #[test]
 fn parts_stand_after_their_entry_and_justifications_are_in_range(
     rt: HostRuntime,
 ) -> Result<(), Fail> {
-    assert!(rt; !fits(1, &List::new(rt.alloc())));
-    for (second, just, due) in &ENTRIES {
-        let told = three_entries_fit(rt.alloc(), *second, *just)?;
-        assert_eq!(rt; told, *due, "{second} {just}");
+    for (place, row) in ENTRIES.iter().enumerate() {
+        check(place, is_fit(rt.alloc(), row))?;
     }
     Ok(())
+}
+
+fn no_entry_fits(alloc: Global) -> bool {
+    fits(1, &List::new(alloc))
 }
 
 #[test]
-fn a_table_is_at_most_64_deep(rt: HostRuntime) -> Result<(), Fail> {
-    assert!(rt; pairs_fit(rt.alloc(), 63)?);
-    assert!(rt; !pairs_fit(rt.alloc(), 64)?);
-    Ok(())
+fn a_table_has_an_entry_and_is_at_most_64_deep(rt: HostRuntime) -> Result<(), Fail> {
+    check(0, Some(!no_entry_fits(rt.alloc())))?;
+    check(1, pairs_fit(rt.alloc(), 63))?;
+    check(2, Some(pairs_fit(rt.alloc(), 64) == Some(false)))
 }
 
 /// The strategy that leaves its goal open.
-fn left_open(alloc: Global) -> Result<Problem<'static, Stepless>, Fail> {
-    let mut tacs = Vec::new(alloc);
-    tacs.push(Tac::Id)?;
-    let tacs = List::from_vec(tacs);
+fn left_open(alloc: Global) -> Option<Problem<'static, Stepless>> {
+    let tacs = List::from_vec(vec![in alloc; Tac::Id].ok()?);
     if !fits(0, &tacs) || tacs.len() != 1 {
-        return Err(Fail::from("the table fits"));
+        return None;
     }
-    Ok(Problem::new(&Stepless, List::new(alloc), tacs))
+    Some(Problem::new(&Stepless, List::new(alloc), tacs))
 }
 
 // ## The core
@@ -155,7 +162,7 @@ fn made(alloc: Global, core: &mut Core<Stepless>, call: Call) -> Answer {
     }
 }
 
-const CALLS: [(Call, Answer); 18] = [
+static CALLS: [(Call, Answer); 18] = [
     (Call::Reissue, Answer::Nothing),
     (Call::Claim(3), Answer::Ticket(1, 7)),
     (Call::Claim(4), Answer::Nothing),
@@ -176,36 +183,49 @@ const CALLS: [(Call, Answer); 18] = [
     (Call::Answer, Answer::Open(7)),
 ];
 
-#[test]
-fn a_job_is_claimed_lost_reissued_and_done_once(rt: HostRuntime) -> Result<(), Fail> {
-    let alloc = rt.alloc();
-    let problem = left_open(alloc)?;
-    if problem.tacs.len() == 0 {
-        return Err(Fail::from("no strategy"));
-    }
-    let work = Work::of(&problem, TacId(0), 5, 7);
-    every_call_keeps_sound(&problem);
-    every_run_is_sound(&problem, &work);
-    let Ok(mut core) = Core::start(&problem, work) else {
-        return Err(Fail::from("no memory"));
-    };
-    assert_eq!(rt; core.work().goal, 7);
-    for (call, due) in CALLS {
-        assert_eq!(rt; made(alloc, &mut core, call), due);
+/// Whether the root's goal is as is due, and the answer to each call.
+fn answers_all(alloc: Global, core: &mut Core<Stepless>) -> Result<(), Fail> {
+    check(CALLS.len(), Some(core.work().goal == 7))?;
+    for (place, (call, due)) in CALLS.iter().enumerate() {
+        check(place, Some(made(alloc, core, *call) == *due))?;
     }
     Ok(())
 }
 
+#[test]
+fn a_job_is_claimed_lost_reissued_and_done_once(rt: HostRuntime) -> Result<(), Fail> {
+    let problem = left_open(rt.alloc()).ok_or("no strategy")?;
+    let work = Work::of(&problem, TacId(0), 5, 7);
+    let Ok(mut core) = Core::start(&problem, work) else {
+        return Err(Fail::from("no memory"));
+    };
+    answers_all(rt.alloc(), &mut core)
+}
+
 // ## Laws
+
+/// The laws of evaluation.
+fn evaluation_laws(problem: &Problem<Stepless>) {
+    eval_is_allowed(problem);
+    only_eval_is_allowed(problem);
+    trees_are_sound(problem);
+    closed_goals_are_derivable(problem);
+    goals_stay_good(problem);
+}
+
+/// The laws of the core.
+fn core_laws(problem: &Problem<Stepless>) {
+    every_call_keeps_sound(problem);
+    if problem.tacs.len() > 0 {
+        every_run_is_sound(problem, &Work::of(problem, TacId(0), 5, 7));
+    }
+}
 
 #[test]
 fn the_laws_are_of_every_problem(rt: HostRuntime) -> Result<(), Fail> {
-    let problem = left_open(rt.alloc())?;
-    eval_is_allowed(&problem);
-    only_eval_is_allowed(&problem);
-    trees_are_sound(&problem);
-    closed_goals_are_derivable(&problem);
-    goals_stay_good(&problem);
+    let problem = left_open(rt.alloc()).ok_or("no strategy")?;
+    evaluation_laws(&problem);
+    core_laws(&problem);
     Ok(())
 }
 
@@ -214,17 +234,18 @@ fn the_laws_are_of_every_problem(rt: HostRuntime) -> Result<(), Fail> {
 /// A goal, and the worker that claims it in its section.
 static SECTIONS: [(u32, u32); 6] = [(7, 1), (3, 2), (7, 3), (0, 4), (3, 5), (7, 6)];
 
-fn sections(alloc: Global) -> Result<Sections, Fail> {
+fn section(alloc: Global, goal: u32, worker: u32) -> Option<Section> {
+    let events = List::from_vec(vec![in alloc; Event::Claim(worker)].ok()?);
+    let goal = Sym(goal);
+    Some(Section { goal, events })
+}
+
+fn sections(alloc: Global) -> Option<Sections> {
     let mut sections = Vec::new(alloc);
     for (goal, worker) in &SECTIONS {
-        let events = List::from_vec(vec![in alloc; Event::Claim(*worker)]?);
-        let goal = Sym(*goal);
-        sections.push(Section { goal, events })?;
+        sections.push(section(alloc, *goal, *worker)?).ok()?;
     }
-    match Sections::new(alloc, List::from_vec(sections)) {
-        Ok(sections) => Ok(sections),
-        Err(NoMemory) => Err(Fail::from("no memory")),
-    }
+    Sections::new(alloc, List::from_vec(sections)).ok()
 }
 
 fn has_events(sections: &Sections, goal: u32, due: &[Event]) -> bool {
@@ -240,11 +261,15 @@ static EVENTS: [(u32, &[Event]); 5] = [
     (8, &[]),
 ];
 
-#[test]
-fn each_goal_has_the_events_of_its_first_section(rt: HostRuntime) -> Result<(), Fail> {
-    let sections = sections(rt.alloc())?;
-    for (goal, due) in &EVENTS {
-        assert!(rt; has_events(&sections, *goal, *due), "goal {goal}");
+fn have_events(sections: &Sections) -> Result<(), Fail> {
+    for (place, (goal, due)) in EVENTS.iter().enumerate() {
+        check(place, Some(has_events(sections, *goal, *due)))?;
     }
     Ok(())
+}
+
+#[test]
+fn each_goal_has_the_events_of_its_first_section(rt: HostRuntime) -> Result<(), Fail> {
+    let sections = sections(rt.alloc()).ok_or("no memory")?;
+    have_events(&sections)
 }

@@ -5,7 +5,7 @@ ghost use Rattle.mp_term.specs.Subst.{widest_of};
 ghost use Rattle.mp_schema.specs.declared.instance.MetaVal.{MetaVal};
 ghost use Rattle.mp_build.specs.Laws.{IsTameTerm};
 
-use mp_schema::MetaVal;
+use mp_schema::MetaVals;
 use mp_term::{Term, depth, few_binders, in_scope};
 
 /// Whether the term is in this scope, and each scope in it is far below the limit.
@@ -19,12 +19,14 @@ pub(crate) fn is_small(t: &Term, scope: u32) -> bool
 }
 
 /// Whether each value has few binders, and is no deeper than a goal.
-pub(crate) fn are_tame(metas: &[MetaVal]) -> bool
+pub(crate) fn are_tame(metas: &MetaVals) -> bool
     ensures { IsTrue result → All (λ (x : MetaVal). IsTameTerm x.body) metas.now }
 {
-    for value in metas {
-        if !few_binders(&value.body) || depth(&value.body) > 200 {
-            return false;
+    for place in 0..metas.len() {
+        if let Some(value) = metas.at(place) {
+            if !few_binders(&value.body) || depth(&value.body) > 200 {
+                return false;
+            }
         }
     }
     true

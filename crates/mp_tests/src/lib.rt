@@ -9,9 +9,13 @@ mod broken;
 #[cfg(test)]
 mod engine_tests;
 #[cfg(test)]
+mod evaluation_tests;
+#[cfg(test)]
 mod faults_tests;
 #[cfg(test)]
 mod guards;
+#[cfg(test)]
+mod halving;
 #[cfg(test)]
 mod matching_tests;
 #[cfg(test)]
@@ -20,6 +24,8 @@ mod names_tests;
 mod ports_tests;
 #[cfg(test)]
 mod rows;
+#[cfg(test)]
+mod table;
 #[cfg(test)]
 mod terms_tests;
 #[cfg(test)]

@@ -3,6 +3,7 @@
 use crate::guards::{are_tame, is_small};
 use crate::rows::Node::{Chain, Hole, Meta, Nested, Num, Op, Under, Var, Wide};
 use crate::rows::{Node, pattern, term};
+use crate::table::check;
 use mp_build::{BuildErr, build_laws, build_term};
 use mp_logic::List;
 use mp_match::match_term;
@@ -11,34 +12,34 @@ use mp_term::{Term, same};
 use std::alloc::Global;
 use std::test::Fail;
 
-/// The term that the rewrite makes of the term of this scope, or that it is too large; None where the redex doesn't
-/// match.
+/// The term that the rewrite makes of the term of this scope, or that it is too large; None within where the redex
+/// doesn't match.
 fn rewritten(
     alloc: Global,
     redex: &Pattern,
     contractum: &Pattern,
     scope: u32,
     t: &Term,
-) -> Result<Option<Result<Term, BuildErr>>, Fail> {
+) -> Option<Option<Result<Term, BuildErr>>> {
     if rewrite_fault(&List::new(alloc), redex, contractum).is_some() {
-        return Err(Fail::from("no rewrite"));
+        return None;
     }
     if !is_small(t, scope) {
-        return Err(Fail::from("no term"));
+        return None;
     }
     faultless_laws();
     let Ok(matched) = match_term(alloc, redex, scope, t) else {
-        return Err(Fail::from("no memory"));
+        return None;
     };
     let Some(inst) = matched else {
-        return Ok(None);
+        return Some(None);
     };
-    if inst.ctxs.len() > 0 || !are_tame(inst.metas.as_slice()) {
-        return Err(Fail::from("no values"));
+    if inst.ctxs.len() > 0 || !are_tame(&inst.metas) {
+        return None;
     }
     fitting_laws();
     build_laws();
-    Ok(Some(build_term(alloc, contractum, &inst)))
+    Some(Some(build_term(alloc, contractum, &inst)))
 }
 
 const A: Node = Meta('A', &[], &[]);
@@ -92,63 +93,76 @@ const DOUBLE: Node = Op('p', &[A, A, Z]);
 const MORE: Node = Op('p', &[A, A, Z, Z]);
 
 /// A redex and a contractum, the scope of a term, the term, and what becomes of it, if it matches.
-type Rewriting = (Node, Node, u32, Node, Option<Result<Node, BuildErr>>);
+type Rewriting = (
+    &'static Node,
+    &'static Node,
+    u32,
+    Node,
+    Option<Result<Node, BuildErr>>,
+);
 
 static REWRITINGS: [Rewriting; 12] = [
     // a value may use the ambient scope and no binder, and repeated values agree
-    (PAIR, A, 2, FIRST, None),
-    (PAIR, A, 2, SECOND, Some(Ok(Var(1)))),
-    (PAIR, A, 2, BOUND, None),
+    (&PAIR, &A, 2, FIRST, None),
+    (&PAIR, &A, 2, SECOND, Some(Ok(Var(1)))),
+    (&PAIR, &A, 2, BOUND, None),
     // arguments are put for the variables
-    (REDEX, REDUCED, 2, APPLIED, Some(Ok(Op('r', &[Q, Var(0)])))),
-    (REDEX, REDUCED, 2, Q, None),
     (
-        Op('s', &[Hole('n')]),
-        Op('p', &[Hole('n'), Hole('n')]),
+        &REDEX,
+        &REDUCED,
+        2,
+        APPLIED,
+        Some(Ok(Op('r', &[Q, Var(0)]))),
+    ),
+    (&REDEX, &REDUCED, 2, Q, None),
+    (
+        &Op('s', &[Hole('n')]),
+        &Op('p', &[Hole('n'), Hole('n')]),
         0,
         Op('s', &[Num(7)]),
         Some(Ok(Op('p', &[Num(7), Num(7)]))),
     ),
     // what is used has 2^60 nodes and more, and no call spends time on them
-    (TWO, Nested(60), 0, HUGE, Some(Err(BuildErr::TooLarge))),
-    (TWO, Nested(60), 0, SMALL, Some(Ok(Z))),
+    (&TWO, &Nested(60), 0, HUGE, Some(Err(BuildErr::TooLarge))),
+    (&TWO, &Nested(60), 0, SMALL, Some(Ok(Z))),
     // twenty thousand nodes and a depth of two hundred are the most
     (
-        ONE,
-        DOUBLE,
+        &ONE,
+        &DOUBLE,
         0,
         Op('g', &[Wide(9998)]),
         Some(Ok(Op('p', &[Wide(9998), Wide(9998), Z]))),
     ),
     (
-        ONE,
-        MORE,
+        &ONE,
+        &MORE,
         0,
         Op('g', &[Wide(9998)]),
         Some(Err(BuildErr::TooLarge)),
     ),
     (
-        ONE,
-        DOUBLE,
+        &ONE,
+        &DOUBLE,
         0,
         Op('g', &[Chain(198)]),
         Some(Ok(Op('p', &[Chain(198), Chain(198), Z]))),
     ),
     (
-        ONE,
-        DOUBLE,
+        &ONE,
+        &DOUBLE,
         0,
         Op('g', &[Chain(199)]),
         Some(Err(BuildErr::TooLarge)),
     ),
 ];
 
-/// Whether the rewriting gives what is due.
-fn is_due(alloc: Global, row: &Rewriting) -> Result<bool, Fail> {
-    let (redex, contractum, scope, node, due) = row;
-    let (redex, contractum) = (pattern(alloc, redex)?, pattern(alloc, contractum)?);
-    let made = rewritten(alloc, &redex, &contractum, *scope, &term(alloc, node)?)?;
-    Ok(match (&made, due) {
+/// Whether the term was made that is due.
+fn is_made(
+    alloc: Global,
+    made: &Option<Result<Term, BuildErr>>,
+    due: &Option<Result<Node, BuildErr>>,
+) -> Option<bool> {
+    Some(match (made, due) {
         (Some(Ok(made)), Some(Ok(due))) => same(made, &term(alloc, due)?),
         (Some(Err(made)), Some(Err(due))) => *made == *due,
         (None, None) => true,
@@ -156,10 +170,22 @@ fn is_due(alloc: Global, row: &Rewriting) -> Result<bool, Fail> {
     })
 }
 
+/// What the rewriting gives.
+fn given(alloc: Global, row: &Rewriting) -> Option<Option<Result<Term, BuildErr>>> {
+    let redex = pattern(alloc, row.0)?;
+    let contractum = pattern(alloc, row.1)?;
+    rewritten(alloc, &redex, &contractum, row.2, &term(alloc, &row.3)?)
+}
+
+/// Whether the rewriting gives what is due.
+fn is_due(alloc: Global, row: &Rewriting) -> Option<bool> {
+    is_made(alloc, &given(alloc, row)?, &row.4)
+}
+
 #[test]
 fn a_contractum_is_built_of_what_its_redex_matched(rt: HostRuntime) -> Result<(), Fail> {
     for (place, row) in REWRITINGS.iter().enumerate() {
-        assert!(rt; is_due(rt.alloc(), row)?, "rewriting {place}");
+        check(place, is_due(rt.alloc(), row))?;
     }
     Ok(())
 }

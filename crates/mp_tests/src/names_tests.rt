@@ -1,13 +1,13 @@
 //! Tables of names, words and what is read of them alone.
 
+use crate::table::check;
 use mp_logic::{List, Sym};
 use mp_names::{NameSet, Names};
 use mp_report::{FileKind, refusal_text};
 use mp_term::Term;
 use mp_termtext::{print_term, read_term};
-use mp_theorytext::read_theory;
 use mp_words::{
-    Keyword, Mark, RawName, ReadFail, TextErr, TextFail, TextWhy, Word, lex_text, whole,
+    Keyword, Mark, RawName, ReadFail, TextErr, TextFail, TextWhy, What, Word, lex_text, whole,
 };
 use std::alloc::Global;
 use std::test::Fail;
@@ -25,17 +25,25 @@ fn number(alloc: Global, names: &mut Names, name: &str) -> Option<Sym> {
 /// A name that is entered, and its number.
 static ENTERED: [(&str, u32); 5] = [("nat", 0), ("all", 1), ("nat", 0), ("x1", 2), ("all", 1)];
 
-#[test]
-fn names_keep_their_numbers(rt: HostRuntime) {
-    let mut names = Names::new(rt.alloc());
-    for (name, sym) in &ENTERED {
-        assert_eq!(rt; number(rt.alloc(), &mut names, *name), Some(Sym(*sym)));
+/// Whether the table has the three names, each with its number, and no other.
+fn are_known(names: &Names) -> bool {
+    let is_found = names.find(b"x1") == Some(Sym(2)) && names.find(b"x").is_none();
+    let is_told = names.text(Sym(1)) == b"all".as_slice() && names.text(Sym(3)).is_empty();
+    names.len() == 3 && is_found && is_told
+}
+
+fn enter_all(alloc: Global, names: &mut Names) -> Result<(), Fail> {
+    for (place, (name, sym)) in ENTERED.iter().enumerate() {
+        check(place, Some(number(alloc, names, *name) == Some(Sym(*sym))))?;
     }
-    assert_eq!(rt; names.len(), 3);
-    assert_eq!(rt; names.find(b"x1"), Some(Sym(2)));
-    assert_eq!(rt; names.find(b"x"), None);
-    assert_eq!(rt; names.text(Sym(1)), b"all".as_slice());
-    assert_eq!(rt; names.text(Sym(3)), b"".as_slice());
+    Ok(())
+}
+
+#[test]
+fn names_keep_their_numbers(rt: HostRuntime) -> Result<(), Fail> {
+    let mut names = Names::new(rt.alloc());
+    enter_all(rt.alloc(), &mut names)?;
+    check(5, Some(are_known(&names)))
 }
 
 /// Whether the name was met before.
@@ -46,124 +54,178 @@ fn was_met(met: &mut NameSet, name: u32) -> Option<bool> {
 /// A name that is met, and whether it was met before.
 static MET: [(u32, bool); 5] = [(3, false), (0, false), (3, true), (1, false), (0, true)];
 
-#[test]
-fn a_name_is_met_once(rt: HostRuntime) {
-    let mut met = NameSet::new(rt.alloc());
-    for (name, before) in &MET {
-        assert_eq!(rt; was_met(&mut met, *name), Some(*before));
+/// Whether each name has the place at which it was met.
+fn have_places(met: &NameSet) -> bool {
+    met.place(Sym(0)) == Some(1) && met.place(Sym(1)) == Some(2) && met.place(Sym(2)).is_none()
+}
+
+fn meet_all(met: &mut NameSet) -> Result<(), Fail> {
+    for (place, (name, before)) in MET.iter().enumerate() {
+        check(place, Some(was_met(met, *name) == Some(*before)))?;
     }
-    assert_eq!(rt; met.place(Sym(0)), Some(1));
-    assert_eq!(rt; met.place(Sym(1)), Some(2));
-    assert_eq!(rt; met.place(Sym(2)), None);
+    Ok(())
+}
+
+#[test]
+fn a_name_is_met_once(rt: HostRuntime) -> Result<(), Fail> {
+    let mut met = NameSet::new(rt.alloc());
+    meet_all(&mut met)?;
+    check(5, Some(have_places(&met)))
 }
 
 // ## Words
 
 /// The words of a short source, in a table that goes on from what it has.
-fn words(alloc: Global, names: &mut Names, source: &str) -> Result<List<Word>, Fail> {
+fn words(alloc: Global, names: &mut Names, source: &str) -> Option<List<Word>> {
     if names.len() > 1000 || source.len() > 1000 {
-        return Err(Fail::from("too long"));
+        return None;
     }
-    match lex_text(alloc, names, source.as_bytes()) {
-        Ok(lexed) => Ok(lexed.words),
-        Err(_) => Err(Fail::from("refused")),
+    lex_text(alloc, names, source.as_bytes()).ok()
+}
+
+/// The first byte of a word, and what it is.
+type Said = (u32, What);
+
+fn are_words(words: &[Word], due: &[Said]) -> bool {
+    if words.len() != due.len() {
+        return false;
     }
+    for (word, (at, what)) in words.iter().zip(due) {
+        if word.at != *at || word.what != *what {
+            return false;
+        }
+    }
+    true
 }
 
 /// Whether the source has these words.
-fn has_words(alloc: Global, names: &mut Names, source: &str, want: &[Word]) -> Result<bool, Fail> {
-    Ok(words(alloc, names, source)?.as_slice() == want)
+fn has_words(alloc: Global, names: &mut Names, source: &str, due: &[Said]) -> Option<bool> {
+    let words = words(alloc, names, source)?;
+    Some(are_words(words.as_slice(), due))
 }
 
-/// How many words the source has, and how many names the table has then.
-fn counts(alloc: Global, names: &mut Names, source: &str) -> Result<(u64, u64), Fail> {
-    let count = words(alloc, names, source)?.len();
-    Ok((count, names.len()))
+/// How many words the source has, and how many names.
+fn counts(alloc: Global, source: &str) -> Option<(u64, u64)> {
+    let mut names = Names::new(alloc);
+    let count = words(alloc, &mut names, source)?.len();
+    Some((count, names.len()))
 }
 
 /// The name that is all of the source, or where its reader is stuck.
-fn whole_name(alloc: Global, source: &str) -> Result<Result<RawName, ReadFail>, Fail> {
+fn whole_name(alloc: Global, source: &str) -> Option<Result<RawName, ReadFail>> {
     let mut names = Names::new(alloc);
     let words = words(alloc, &mut names, source)?;
-    Ok(whole::<RawName>(alloc, words.as_slice()))
+    Some(whole::<RawName>(alloc, words.as_slice()))
 }
 
 /// A source, and its words, in one table of names for all sources.
-static WORDS: [(&str, &[Word]); 4] = [
+static WORDS: [(&str, &[Said]); 4] = [
     (
         "rule Rule 'x3 'A -42 \"a\\\"b\\\\\" >- x3 # rule\n'y3",
         &[
-            Word::Small {
-                name: Sym(0),
-                keyword: Some(Keyword::Rule),
-            },
-            Word::Cap(Sym(1)),
-            Word::SmallVar {
-                name: Sym(2),
-                numbered: Some(3),
-            },
-            Word::CapVar(Sym(3)),
-            Word::Num(-42),
-            Word::Str(Sym(4)),
-            Word::Mark(Mark::Turnstile),
-            Word::Small {
-                name: Sym(2),
-                keyword: None,
-            },
-            Word::SmallVar {
-                name: Sym(5),
-                numbered: None,
-            },
+            (
+                0,
+                What::Small {
+                    name: Sym(0),
+                    keyword: Some(Keyword::Rule),
+                },
+            ),
+            (5, What::Cap(Sym(1))),
+            (
+                10,
+                What::SmallVar {
+                    name: Sym(2),
+                    numbered: Some(3),
+                },
+            ),
+            (14, What::CapVar(Sym(3))),
+            (17, What::Num(-42)),
+            (21, What::Str(Sym(4))),
+            (30, What::Mark(Mark::Turnstile)),
+            (
+                33,
+                What::Small {
+                    name: Sym(2),
+                    keyword: None,
+                },
+            ),
+            (
+                43,
+                What::SmallVar {
+                    name: Sym(5),
+                    numbered: None,
+                },
+            ),
         ],
     ),
     (
         "x3 new",
         &[
-            Word::Small {
-                name: Sym(2),
-                keyword: None,
-            },
-            Word::Small {
-                name: Sym(6),
-                keyword: None,
-            },
+            (
+                0,
+                What::Small {
+                    name: Sym(2),
+                    keyword: None,
+                },
+            ),
+            (
+                3,
+                What::Small {
+                    name: Sym(6),
+                    keyword: None,
+                },
+            ),
         ],
     ),
     (
         "'x4294967295 'x4294967296",
         &[
-            Word::SmallVar {
-                name: Sym(7),
-                numbered: Some(4294967295),
-            },
-            Word::SmallVar {
-                name: Sym(8),
-                numbered: None,
-            },
+            (
+                0,
+                What::SmallVar {
+                    name: Sym(7),
+                    numbered: Some(4294967295),
+                },
+            ),
+            (
+                13,
+                What::SmallVar {
+                    name: Sym(8),
+                    numbered: None,
+                },
+            ),
         ],
     ),
     (
         "--> <-> & |",
         &[
-            Word::Mark(Mark::Provided),
-            Word::Mark(Mark::Rewrites),
-            Word::Mark(Mark::And),
-            Word::Mark(Mark::Bar),
+            (0, What::Mark(Mark::Provided)),
+            (4, What::Mark(Mark::Rewrites)),
+            (8, What::Mark(Mark::And)),
+            (10, What::Mark(Mark::Bar)),
         ],
     ),
 ];
 
+/// Whether the names have their texts, without quotes and escapes.
+fn have_texts(names: &Names) -> bool {
+    names.text(Sym(2)) == b"x3".as_slice()
+        && names.text(Sym(3)) == b"A".as_slice()
+        && names.text(Sym(4)) == b"a\"b\\".as_slice()
+}
+
+fn have_words(alloc: Global, names: &mut Names) -> Result<(), Fail> {
+    for (place, (source, due)) in WORDS.iter().enumerate() {
+        check(place, has_words(alloc, names, *source, *due))?;
+    }
+    Ok(())
+}
+
 #[test]
 fn each_token_has_its_word(rt: HostRuntime) -> Result<(), Fail> {
-    let alloc = rt.alloc();
-    let mut names = Names::new(alloc);
-    for (source, want) in &WORDS {
-        assert!(rt; has_words(alloc, &mut names, *source, *want)?, "{source}");
-    }
-    assert_eq!(rt; names.text(Sym(2)), b"x3".as_slice());
-    assert_eq!(rt; names.text(Sym(3)), b"A".as_slice());
-    assert_eq!(rt; names.text(Sym(4)), b"a\"b\\".as_slice());
-    Ok(())
+    let mut names = Names::new(rt.alloc());
+    have_words(rt.alloc(), &mut names)?;
+    check(4, Some(have_texts(&names)))
 }
 
 /// A source, and how many words and how many names it has.
@@ -178,10 +240,9 @@ static COUNTS: [(&str, u64, u64); 2] = [
 
 #[test]
 fn each_mark_and_each_keyword_is_a_word(rt: HostRuntime) -> Result<(), Fail> {
-    let alloc = rt.alloc();
-    for (source, count, entered) in &COUNTS {
-        let mut names = Names::new(alloc);
-        assert_eq!(rt; counts(alloc, &mut names, *source)?, (*count, *entered));
+    for (place, (source, count, entered)) in COUNTS.iter().enumerate() {
+        let due = Some((*count, *entered));
+        check(place, Some(counts(rt.alloc(), *source) == due))?;
     }
     Ok(())
 }
@@ -192,18 +253,51 @@ static WHOLE: [(&str, Result<RawName, ReadFail>); 4] = [
         "a",
         Ok(RawName {
             name: Sym(0),
-            left: 1,
+            at: 0,
         }),
     ),
-    ("", Err(ReadFail::Stuck(0))),
-    ("A", Err(ReadFail::Stuck(1))),
-    ("a b c", Err(ReadFail::Stuck(2))),
+    ("", Err(ReadFail::Stuck(None))),
+    ("A", Err(ReadFail::Stuck(Some(0)))),
+    ("a b c", Err(ReadFail::Stuck(Some(2)))),
 ];
+
+/// A source, and for each of its words whether no other one stands before it on its line.
+static LINES: [(&str, &[bool]); 3] = [
+    ("a b", &[true, false]),
+    ("\n  a\n b c # d\n\te", &[true, true, false, true]),
+    ("# a\n b", &[true]),
+];
+
+fn open_lines(words: &[Word], due: &[bool]) -> bool {
+    if words.len() != due.len() {
+        return false;
+    }
+    for (word, opens) in words.iter().zip(due) {
+        if word.opens_line != *opens {
+            return false;
+        }
+    }
+    true
+}
+
+fn has_lines(alloc: Global, row: &(&'static str, &'static [bool])) -> Option<bool> {
+    let mut names = Names::new(alloc);
+    let words = words(alloc, &mut names, row.0)?;
+    Some(open_lines(words.as_slice(), row.1))
+}
+
+#[test]
+fn a_word_may_open_its_line(rt: HostRuntime) -> Result<(), Fail> {
+    for (place, row) in LINES.iter().enumerate() {
+        check(place, has_lines(rt.alloc(), row))?;
+    }
+    Ok(())
+}
 
 #[test]
 fn a_part_is_all_of_the_words(rt: HostRuntime) -> Result<(), Fail> {
-    for (source, want) in &WHOLE {
-        assert_eq!(rt; whole_name(rt.alloc(), *source)?, *want);
+    for (place, (source, due)) in WHOLE.iter().enumerate() {
+        check(place, Some(whole_name(rt.alloc(), *source) == Some(*due)))?;
     }
     Ok(())
 }
@@ -235,67 +329,32 @@ fn is_printed(alloc: Global, names: &Names, term: &Term, scope: u32, text: &[u8]
 }
 
 /// Whether the term is read and printed so, or refused so.
-fn is_again(alloc: Global, row: &Again) -> Result<bool, Fail> {
+fn is_again(alloc: Global, row: &Again) -> Option<bool> {
     let (source, scope, want) = row;
     if source.len() > 1000 || *scope > 1000 {
-        return Err(Fail::from("too long"));
+        return None;
     }
     let mut names = Names::new(alloc);
-    match (
-        read_term(alloc, &mut names, source.as_bytes(), *scope),
-        want,
-    ) {
-        (Ok(term), Ok(text)) => { Ok(is_printed(alloc, &names, &term, *scope, text.as_bytes())) }
-        (Err(TextFail::Bad(err)), Err((at, why))) => Ok(err.at == *at && err.why == *why),
-        _ => Ok(false),
-    }
+    let read = read_term(alloc, &mut names, source.as_bytes(), *scope);
+    Some(match (read, want) {
+        (Ok(term), Ok(text)) => is_printed(alloc, &names, &term, *scope, text.as_bytes()),
+        (Err(TextFail::Bad(err)), Err((at, why))) => err.at == *at && err.why == *why,
+        _ => false,
+    })
 }
 
 #[test]
 fn terms_are_read_and_printed_with_free_names(rt: HostRuntime) -> Result<(), Fail> {
-    for row in &AGAIN {
-        assert!(rt; is_again(rt.alloc(), row)?, "{}", row.0);
+    for (place, row) in AGAIN.iter().enumerate() {
+        check(place, is_again(rt.alloc(), row))?;
     }
     Ok(())
 }
 
-/// How many rules the source has.
-fn count_rules(alloc: Global, source: &str) -> Option<u32> {
-    if source.len() > 1000 {
-        return None;
-    }
-    match read_theory(alloc, &mut Names::new(alloc), source.as_bytes()) {
-        Ok(theory) => Some(theory.len()),
-        Err(_) => None,
-    }
-}
+/// What a file that no command reads yet is read as, the byte and the name of its fault, and the line of the refusal.
+type Refusal = (FileKind, u64, TextWhy, &'static str);
 
-#[test]
-fn the_rules_of_a_text_are_counted(rt: HostRuntime) {
-    let source = "rule a : ==> >- p rule b : >- p ==> >- q";
-    assert_eq!(rt; count_rules(rt.alloc(), source), Some(2));
-}
-
-/// What a file is read as, the byte and the name of its fault, and the line of the refusal.
-static REFUSALS: [(FileKind, u64, TextWhy, &str); 6] = [
-    (
-        FileKind::Theory,
-        0,
-        TextWhy::BadByte,
-        "refused: theory byte 0: BadByte\n",
-    ),
-    (
-        FileKind::Script,
-        1048576,
-        TextWhy::Syntax,
-        "refused: script byte 1048576: Syntax\n",
-    ),
-    (
-        FileKind::Schedule,
-        13,
-        TextWhy::BadNumber,
-        "refused: schedule byte 13: BadNumber\n",
-    ),
+static REFUSALS: [Refusal; 3] = [
     (
         FileKind::Trees,
         7,
@@ -316,18 +375,20 @@ static REFUSALS: [(FileKind, u64, TextWhy, &str); 6] = [
     ),
 ];
 
-/// Whether this is the line of the refusal.
-fn is_refused(alloc: Global, file: FileKind, error: &TextErr, line: &str) -> bool {
-    match refusal_text(alloc, file, error) {
+/// Whether the refusal is this line.
+fn is_refused(alloc: Global, row: &Refusal) -> bool {
+    let (file, at, why, line) = row;
+    let error = TextErr { at: *at, why: *why };
+    match refusal_text(alloc, *file, &error) {
         Ok(text) => text.as_slice() == line.as_bytes(),
         Err(_) => false,
     }
 }
 
 #[test]
-fn a_refusal_is_a_line(rt: HostRuntime) {
-    for (file, at, why, line) in &REFUSALS {
-        let error = TextErr { at: *at, why: *why };
-        assert!(rt; is_refused(rt.alloc(), *file, &error, *line), "{line}");
+fn a_refusal_is_a_line(rt: HostRuntime) -> Result<(), Fail> {
+    for (place, row) in REFUSALS.iter().enumerate() {
+        check(place, Some(is_refused(rt.alloc(), row)))?;
     }
+    Ok(())
 }

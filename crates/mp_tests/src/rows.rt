@@ -1,11 +1,10 @@
 //! Terms, patterns, goals and schemata, made from rows of plain values that say what they are.
 
 use self::Node::{Chain, Ctx, Hole, Meta, Nested, Num, Op, Under, Var, Wide};
-use mp_logic::{List, NoMemory, Shared, Sym};
+use mp_logic::{List, Shared, Sym};
 use mp_schema::{Item, PBound, ParamPat, Pattern, Schema};
 use mp_term::{Bound, Param, Sequent, Term};
 use std::alloc::Global;
-use std::test::Fail;
 
 /// A pattern, a term or a context. A letter stands for the name whose number it is.
 #[derive(Clone, Copy)]
@@ -41,12 +40,12 @@ pub(crate) fn named(letter: char) -> Sym {
 }
 
 /// The names that the letters stand for.
-pub(crate) fn names(alloc: Global, letters: &[char]) -> Result<List<Sym>, Fail> {
+pub(crate) fn names(alloc: Global, letters: &[char]) -> Option<List<Sym>> {
     let mut row = Vec::new(alloc);
     for letter in letters {
-        row.push(named(*letter))?;
+        row.push(named(*letter)).ok()?;
     }
-    Ok(List::from_vec(row))
+    Some(List::from_vec(row))
 }
 
 fn binders(node: &Node) -> u32 {
@@ -58,79 +57,89 @@ fn binders(node: &Node) -> u32 {
 
 // ## Terms
 
-fn operator(alloc: Global, op: char, params: List<Param>, subs: Vec<Bound>) -> Result<Term, Fail> {
+fn operator(alloc: Global, op: char, params: List<Param>, subs: Vec<Bound>) -> Option<Term> {
     let op = named(op);
-    match Shared::new(alloc, List::from_vec(subs)) {
-        Ok(subs) => Ok(Term::Op { op, params, subs }),
-        Err(NoMemory) => Err(Fail::from("no memory")),
-    }
+    let subs = Shared::new(alloc, List::from_vec(subs)).ok()?;
+    Some(Term::Op { op, params, subs })
 }
 
-fn operation(alloc: Global, op: char, subs: Vec<Bound>) -> Result<Term, Fail> {
+fn operation(alloc: Global, op: char, subs: Vec<Bound>) -> Option<Term> {
     operator(alloc, op, List::new(alloc), subs)
 }
 
-fn wide(alloc: Global, constants: u32) -> Result<Term, Fail> {
+fn constant(alloc: Global) -> Option<Term> {
+    operation(alloc, 'z', Vec::new(alloc))
+}
+
+fn wide(alloc: Global, constants: u32) -> Option<Term> {
     let mut subs = Vec::new(alloc);
     for _ in 0..constants {
-        let body = operation(alloc, 'z', Vec::new(alloc))?;
-        subs.push(Bound { binders: 0, body })?;
+        let body = constant(alloc)?;
+        subs.push(Bound { binders: 0, body }).ok()?;
     }
     operation(alloc, 'w', subs)
 }
 
-fn chain(alloc: Global, operators: u32) -> Result<Term, Fail> {
-    let mut body = operation(alloc, 'z', Vec::new(alloc))?;
-    for _ in 0..operators {
-        let mut subs = Vec::new(alloc);
-        subs.push(Bound { binders: 0, body })?;
-        body = operation(alloc, 's', subs)?;
-    }
-    Ok(body)
+fn above(alloc: Global, body: Term) -> Option<Term> {
+    let mut subs = Vec::new(alloc);
+    subs.push(Bound { binders: 0, body }).ok()?;
+    operation(alloc, 's', subs)
 }
 
-fn numeral(alloc: Global, number: i64) -> Result<Term, Fail> {
-    let params = List::from_vec(vec![in alloc; Param::Num(number)]?);
+fn chain(alloc: Global, operators: u32) -> Option<Term> {
+    let mut body = constant(alloc)?;
+    for _ in 0..operators {
+        body = above(alloc, body)?;
+    }
+    Some(body)
+}
+
+fn numeral(alloc: Global, number: i64) -> Option<Term> {
+    let params = List::from_vec(vec![in alloc; Param::Num(number)].ok()?);
     operator(alloc, '#', params, Vec::new(alloc))
 }
 
+#[cycle(term)]
+fn bounds(alloc: Global, nodes: &[Node]) -> Option<Vec<Bound>> {
+    let mut subs = Vec::new(alloc);
+    for sub in nodes {
+        let (binders, body) = (binders(sub), term(alloc, sub)?);
+        subs.push(Bound { binders, body }).ok()?;
+    }
+    Some(subs)
+}
+
 /// The term that the node says; holes, contexts and second-order variables are none.
-pub(crate) fn term(alloc: Global, node: &Node) -> Result<Term, Fail> {
+#[cycle(term)]
+pub(crate) fn term(alloc: Global, node: &Node) -> Option<Term> {
     match node {
-        Var(level) => Ok(Term::Var(*level)),
-        Op(op, nodes) => {
-            let mut subs = Vec::new(alloc);
-            for sub in *nodes {
-                let (binders, body) = (binders(sub), term(alloc, sub)?);
-                subs.push(Bound { binders, body })?;
-            }
-            operation(alloc, *op, subs)
-        }
+        Var(level) => Some(Term::Var(*level)),
+        Op(op, nodes) => operation(alloc, *op, bounds(alloc, *nodes)?),
         Under(_, body) => term(alloc, *body),
         Num(number) => numeral(alloc, *number),
         Chain(operators) => chain(alloc, *operators),
         Wide(constants) => wide(alloc, *constants),
-        Hole(_) | Nested(_) | Meta(..) | Ctx(..) => Err(Fail::from("no term")),
+        Hole(_) | Nested(_) | Meta(..) | Ctx(..) => None,
     }
 }
 
 /// The terms that the nodes say.
-pub(crate) fn terms(alloc: Global, nodes: &[Node]) -> Result<Vec<Term>, Fail> {
+pub(crate) fn terms(alloc: Global, nodes: &[Node]) -> Option<Vec<Term>> {
     let mut row = Vec::new(alloc);
     for node in nodes {
-        row.push(term(alloc, node)?)?;
+        row.push(term(alloc, node)?).ok()?;
     }
-    Ok(row)
+    Some(row)
 }
 
 /// The goal that the line says.
-pub(crate) fn goal(alloc: Global, line: Line) -> Result<Sequent, Fail> {
+pub(crate) fn goal(alloc: Global, line: Line) -> Option<Sequent> {
     let [nodes @ .., concl] = line else {
-        return Err(Fail::from("no conclusion"));
+        return None;
     };
-    let (hyps, concl) = (terms(alloc, nodes)?, term(alloc, concl)?);
-    let hyps = List::from_vec(hyps);
-    Ok(Sequent { hyps, concl })
+    let hyps = List::from_vec(terms(alloc, nodes)?);
+    let concl = term(alloc, concl)?;
+    Some(Sequent { hyps, concl })
 }
 
 // ## Patterns
@@ -143,116 +152,132 @@ fn pattern_operation(alloc: Global, op: char, subs: Vec<PBound>) -> Pattern {
     }
 }
 
-fn wide_pattern(alloc: Global, constants: u32) -> Result<Pattern, Fail> {
+fn pattern_constant(alloc: Global) -> Pattern {
+    pattern_operation(alloc, 'z', Vec::new(alloc))
+}
+
+fn wide_pattern(alloc: Global, constants: u32) -> Option<Pattern> {
     let mut subs = Vec::new(alloc);
     for _ in 0..constants {
-        let body = pattern_operation(alloc, 'z', Vec::new(alloc));
-        subs.push(PBound { binders: 0, body })?;
+        let body = pattern_constant(alloc);
+        subs.push(PBound { binders: 0, body }).ok()?;
     }
-    Ok(pattern_operation(alloc, 'w', subs))
+    Some(pattern_operation(alloc, 'w', subs))
 }
 
-fn chain_pattern(alloc: Global, operators: u32) -> Result<Pattern, Fail> {
-    let mut body = pattern_operation(alloc, 'z', Vec::new(alloc));
+fn above_pattern(alloc: Global, body: Pattern) -> Option<Pattern> {
+    let mut subs = Vec::new(alloc);
+    subs.push(PBound { binders: 0, body }).ok()?;
+    Some(pattern_operation(alloc, 's', subs))
+}
+
+fn chain_pattern(alloc: Global, operators: u32) -> Option<Pattern> {
+    let mut body = pattern_constant(alloc);
     for _ in 0..operators {
-        let mut subs = Vec::new(alloc);
-        subs.push(PBound { binders: 0, body })?;
-        body = pattern_operation(alloc, 's', subs);
+        body = above_pattern(alloc, body)?;
     }
-    Ok(body)
+    Some(body)
 }
 
-fn constant_with(alloc: Global, param: ParamPat) -> Result<Pattern, Fail> {
-    Ok(Pattern::Op {
+fn constant_with(alloc: Global, param: ParamPat) -> Option<Pattern> {
+    Some(Pattern::Op {
         op: named('#'),
-        params: List::from_vec(vec![in alloc; param]?),
+        params: List::from_vec(vec![in alloc; param].ok()?),
         subs: List::new(alloc),
     })
 }
 
-fn applied(alloc: Global, name: char, arg: Pattern) -> Result<Pattern, Fail> {
-    Ok(Pattern::Meta {
+fn applied(alloc: Global, name: char, arg: Pattern) -> Option<Pattern> {
+    Some(Pattern::Meta {
         name: named(name),
         ctxs: List::new(alloc),
-        args: List::from_vec(vec![in alloc; arg]?),
+        args: List::from_vec(vec![in alloc; arg].ok()?),
     })
 }
 
-fn nested(alloc: Global, times: u32) -> Result<Pattern, Fail> {
-    let mut body = pattern_operation(alloc, 'z', Vec::new(alloc));
+fn nested(alloc: Global, times: u32) -> Option<Pattern> {
+    let mut body = pattern_constant(alloc);
     for _ in 0..times {
         body = applied(alloc, 'A', body)?;
     }
     applied(alloc, 'B', body)
 }
 
+#[cycle(pattern)]
+fn pattern_bounds(alloc: Global, nodes: &[Node]) -> Option<Vec<PBound>> {
+    let mut subs = Vec::new(alloc);
+    for sub in nodes {
+        let (binders, body) = (binders(sub), pattern(alloc, sub)?);
+        subs.push(PBound { binders, body }).ok()?;
+    }
+    Some(subs)
+}
+
 /// The pattern that the node says; a context is none.
 #[cycle(pattern)]
-pub(crate) fn pattern(alloc: Global, node: &Node) -> Result<Pattern, Fail> {
+pub(crate) fn pattern(alloc: Global, node: &Node) -> Option<Pattern> {
     match node {
-        Var(level) => Ok(Pattern::Var(*level)),
-        Op(op, nodes) => {
-            let mut subs = Vec::new(alloc);
-            for sub in *nodes {
-                let (binders, body) = (binders(sub), pattern(alloc, sub)?);
-                subs.push(PBound { binders, body })?;
-            }
-            Ok(pattern_operation(alloc, *op, subs))
-        }
+        Var(level) => Some(Pattern::Var(*level)),
+        Op(op, nodes) => Some(pattern_operation(alloc, *op, pattern_bounds(alloc, *nodes)?)),
         Under(_, body) => pattern(alloc, *body),
         Num(number) => constant_with(alloc, ParamPat::Lit(Param::Num(*number))),
         Hole(name) => constant_with(alloc, ParamPat::Hole(named(*name))),
         Chain(operators) => chain_pattern(alloc, *operators),
         Wide(constants) => wide_pattern(alloc, *constants),
         Nested(times) => nested(alloc, *times),
-        Meta(name, ctxs, args) => Ok(Pattern::Meta {
+        Meta(name, ctxs, args) => Some(Pattern::Meta {
             name: named(*name),
             ctxs: names(alloc, *ctxs)?,
             args: patterns(alloc, *args)?,
         }),
-        Ctx(..) => Err(Fail::from("no pattern")),
+        Ctx(..) => None,
     }
 }
 
 /// The patterns that the nodes say.
 #[cycle(pattern)]
-pub(crate) fn patterns(alloc: Global, nodes: &[Node]) -> Result<List<Pattern>, Fail> {
+pub(crate) fn patterns(alloc: Global, nodes: &[Node]) -> Option<List<Pattern>> {
     let mut row = Vec::new(alloc);
     for node in nodes {
-        row.push(pattern(alloc, node)?)?;
+        row.push(pattern(alloc, node)?).ok()?;
     }
-    Ok(List::from_vec(row))
+    Some(List::from_vec(row))
 }
 
-fn item(alloc: Global, node: &Node) -> Result<Item, Fail> {
+fn item(alloc: Global, node: &Node) -> Option<Item> {
     match node {
-        Ctx(name, ctxs, args) => Ok(Item::Ctx {
+        Ctx(name, ctxs, args) => Some(Item::Ctx {
             name: named(*name),
             ctxs: names(alloc, *ctxs)?,
             args: patterns(alloc, *args)?,
         }),
-        _ => Ok(Item::Hyp(pattern(alloc, node)?)),
+        _ => Some(Item::Hyp(pattern(alloc, node)?)),
     }
+}
+
+fn items(alloc: Global, nodes: &[Node]) -> Option<List<Item>> {
+    let mut items = Vec::new(alloc);
+    for node in nodes {
+        items.push(item(alloc, node)?).ok()?;
+    }
+    Some(List::from_vec(items))
 }
 
 /// The schema that the line says.
-pub(crate) fn schema(alloc: Global, line: Line) -> Result<Schema, Fail> {
+pub(crate) fn schema(alloc: Global, line: Line) -> Option<Schema> {
     let [nodes @ .., concl] = line else {
-        return Err(Fail::from("no conclusion"));
+        return None;
     };
-    let mut items = Vec::new(alloc);
-    for node in nodes {
-        items.push(item(alloc, node)?)?;
-    }
-    let (items, concl) = (List::from_vec(items), pattern(alloc, concl)?);
-    Ok(Schema { items, concl })
+    let items = items(alloc, nodes)?;
+    let concl = pattern(alloc, concl)?;
+    Some(Schema { items, concl })
 }
 
 /// The schemata that the lines say.
-pub(crate) fn schemata(alloc: Global, lines: &[Line]) -> Result<List<Schema>, Fail> {
+pub(crate) fn schemata(alloc: Global, lines: &[Line]) -> Option<List<Schema>> {
     let mut row = Vec::new(alloc);
     for line in lines {
-        row.push(schema(alloc, *line)?)?;
+        row.push(schema(alloc, *line)?).ok()?;
     }
-    Ok(List::from_vec(row))
+    Some(List::from_vec(row))
 }

@@ -1,10 +1,12 @@
-//! Theories: rules that are added, refused and found, and what they need.
+//! Theories: laws that are added, refused and found, what rules need, and addresses.
 
-use crate::rows::Node::{Meta, Var};
-use crate::rows::{Line, named, schema, schemata};
+use self::Added::{Rewrite, Rule};
+use crate::rows::Node::{Hole, Meta, Op, Var};
+use crate::rows::{Line, Node, named, pattern, patterns, schema, schemata};
+use crate::table::check;
 use mp_logic::Sym;
-use mp_schema::SchemaFault::UnboundVar;
-use mp_theory::{Theory, TheoryErr};
+use mp_schema::SchemaFault::{UnboundParam, UnboundVar};
+use mp_theory::{Address, Need, Theory, TheoryErr};
 use std::alloc::Global;
 use std::test::Fail;
 
@@ -19,15 +21,47 @@ const D: Line = &[Meta('D', &[], &[])];
 
 const FREE: Line = &[Var(0)];
 
-/// The name of a rule, its premises and its conclusion, and whether it is refused.
-type Added = (char, &'static [Line], Line, Result<(), TheoryErr>);
+// Patterns: a variable that is bound nowhere, 'A, and s{'A}.
+const NOWHERE: Node = Var(0);
 
-static ADDED: [Added; 5] = [
-    ('r', &[C, A, C, D, B], A, Ok(())),
-    ('r', &[], FREE, Err(TheoryErr::Taken)),
-    ('s', &[], FREE, Err(TheoryErr::Schema(UnboundVar))),
-    ('s', &[], A, Ok(())),
-    ('t', &[], A, Ok(())),
+const PLAIN: Node = Meta('A', &[], &[]);
+
+const OVER: Node = Op('s', &[PLAIN]);
+
+/// A law.
+enum Added {
+    /// The premises of a rule, and its conclusion.
+    Rule(&'static [Line], Line),
+    /// The conditions of a rewrite, its redex, and its contractum.
+    Rewrite(&'static [Node], &'static Node, &'static Node),
+}
+
+/// The name of a law, the law, and whether it is refused.
+type Row = (char, Added, Result<(), TheoryErr>);
+
+static RULES: [Row; 5] = [
+    ('r', Rule(&[C, A, C, D, B], A), Ok(())),
+    ('r', Rule(&[], FREE), Err(TheoryErr::Taken)),
+    ('s', Rule(&[], FREE), Err(TheoryErr::Schema(UnboundVar))),
+    ('s', Rule(&[], A), Ok(())),
+    ('t', Rule(&[], A), Ok(())),
+];
+
+static LAWS: [Row; 8] = [
+    ('r', Rule(&[A, B], A), Ok(())),
+    // a rule's name and a rewrite's
+    ('r', Rewrite(&[], &NOWHERE, &PLAIN), Err(TheoryErr::Taken)),
+    ('w', Rewrite(&[PLAIN, OVER], &OVER, &PLAIN), Ok(())),
+    ('w', Rule(&[], FREE), Err(TheoryErr::Taken)),
+    ('w', Rewrite(&[], &NOWHERE, &PLAIN), Err(TheoryErr::Taken)),
+    // two faults, of which the second is the first in their order
+    (
+        'x',
+        Rewrite(&[Meta('B', &[], &[]), Hole('n')], &OVER, &PLAIN),
+        Err(TheoryErr::Schema(UnboundParam)),
+    ),
+    ('x', Rewrite(&[], &OVER, &PLAIN), Ok(())),
+    ('t', Rule(&[A], A), Ok(())),
 ];
 
 /// A name, and the place of its rule.
@@ -38,49 +72,172 @@ static PLACES: [(char, Option<u32>); 4] = [
     ('u', None),
 ];
 
-/// Adds the rule, and says whether it is refused as is due.
-fn is_added(alloc: Global, theory: &mut Theory, row: &Added) -> Result<bool, Fail> {
-    let (name, premises, concl, due) = row;
+/// A place, the name of the law there, and the places of the rule and of the rewrite with this name.
+type Found = (u32, char, Option<u32>, Option<u32>);
+
+static FOUND: [Found; 5] = [
+    (0, 'r', Some(0), None),
+    (1, 'w', None, Some(1)),
+    (2, 'x', None, Some(2)),
+    (3, 't', Some(3), None),
+    (4, 'u', None, None),
+];
+
+/// Adds the rule. What is refused is within.
+fn add_rule(
+    alloc: Global,
+    theory: &mut Theory,
+    name: char,
+    premises: &[Line],
+    concl: Line,
+) -> Option<Result<(), TheoryErr>> {
     if theory.len() > 100 {
-        return Err(Fail::from("many rules"));
+        return None;
     }
-    let (premises, concl) = (schemata(alloc, *premises)?, schema(alloc, *concl)?);
-    Ok(theory.add_rule(alloc, named(*name), premises, concl) == *due)
+    let premises = schemata(alloc, premises)?;
+    let concl = schema(alloc, concl)?;
+    Some(theory.add_rule(alloc, named(name), premises, concl))
 }
 
-/// The place of the rule with this name.
-fn place_of(theory: &Theory, name: char) -> Option<u32> {
-    theory.rule_named(named(name))
+/// Adds the rewrite. What is refused is within.
+fn add_rewrite(
+    alloc: Global,
+    theory: &mut Theory,
+    name: char,
+    conds: &[Node],
+    redex: &Node,
+    contractum: &Node,
+) -> Option<Result<(), TheoryErr>> {
+    if theory.len() > 100 {
+        return None;
+    }
+    let conds = patterns(alloc, conds)?;
+    let redex = pattern(alloc, redex)?;
+    let contractum = pattern(alloc, contractum)?;
+    Some(theory.add_rewrite(alloc, named(name), conds, redex, contractum))
 }
 
-/// What the rule at this place needs.
-fn needs_at(alloc: Global, theory: &Theory, place: u32) -> Result<Vec<Sym>, Fail> {
-    let mut names = Vec::new(alloc);
-    if let Some(rule) = theory.rule(place) {
-        for need in rule.needs.as_slice() {
-            names.push(need.name)?;
+/// Adds the law, and says whether it is refused as is due.
+fn is_added(alloc: Global, theory: &mut Theory, row: &Row) -> Option<bool> {
+    let (name, law, due) = row;
+    let given = match law {
+        Rule(premises, concl) => add_rule(alloc, theory, *name, *premises, *concl),
+        Rewrite(conds, redex, contractum) => {
+            add_rewrite(alloc, theory, *name, *conds, *redex, *contractum)
         }
+    };
+    Some(given? == *due)
+}
+
+fn add_all(alloc: Global, theory: &mut Theory, rows: &[Row]) -> Result<(), Fail> {
+    for (place, row) in rows.iter().enumerate() {
+        check(place, is_added(alloc, theory, row))?;
     }
-    Ok(names)
+    Ok(())
+}
+
+/// Whether there are three rules, each at its place.
+fn have_places(theory: &Theory) -> Result<(), Fail> {
+    for (place, (name, due)) in PLACES.iter().enumerate() {
+        check(place, Some(theory.rule_named(named(*name)) == *due))?;
+    }
+    check(
+        PLACES.len(),
+        Some(theory.len() == 3 && theory.rule(3).is_none()),
+    )
 }
 
 #[test]
 fn a_name_is_taken_before_a_fault_is_looked_for(rt: HostRuntime) -> Result<(), Fail> {
-    let alloc = rt.alloc();
-    let mut theory = Theory::new(alloc);
-    for (place, row) in ADDED.iter().enumerate() {
-        assert!(rt; is_added(alloc, &mut theory, row)?, "rule {place}");
+    let mut theory = Theory::new(rt.alloc());
+    add_all(rt.alloc(), &mut theory, &RULES)?;
+    have_places(&theory)
+}
+
+/// Whether the place and the name are those of a rule or of a rewrite alone, as is due.
+fn is_found(theory: &Theory, row: &Found) -> bool {
+    let (place, name, rule, rewrite) = row;
+    theory.rule_named(named(*name)) == *rule
+        && theory.rewrite_named(named(*name)) == *rewrite
+        && theory.rule(*place).is_some() == rule.is_some()
+        && theory.rewrite(*place).is_some() == rewrite.is_some()
+}
+
+fn are_found(theory: &Theory) -> Result<(), Fail> {
+    for (place, row) in FOUND.iter().enumerate() {
+        check(place, Some(is_found(theory, row)))?;
     }
-    assert_eq!(rt; theory.len(), 3);
-    for (name, place) in &PLACES {
-        assert_eq!(rt; place_of(&theory, *name), *place);
+    Ok(())
+}
+
+/// Whether the rewrite with two conditions is as it was added.
+fn is_whole(theory: &Theory) -> Option<bool> {
+    let rewrite = theory.rewrite(1)?;
+    Some(rewrite.name == named('w') && rewrite.conds.len() == 2)
+}
+
+#[test]
+fn rules_and_rewrites_are_found_as_what_they_are(rt: HostRuntime) -> Result<(), Fail> {
+    let mut theory = Theory::new(rt.alloc());
+    check(LAWS.len(), Some(theory.width() == 0))?;
+    add_all(rt.alloc(), &mut theory, &LAWS)?;
+    // two conditions and the rewritten goal are one more than two premises
+    check(LAWS.len(), Some(theory.width() == 3))?;
+    check(FOUND.len(), is_whole(&theory))?;
+    are_found(&theory)
+}
+
+/// The names of what is needed.
+fn names_of(alloc: Global, needs: &[Need]) -> Option<Vec<Sym>> {
+    let mut names = Vec::new(alloc);
+    for need in needs {
+        names.push(need.name).ok()?;
     }
-    assert!(rt; theory.rule(3).is_none());
-    // what is needed stands in the order of its first occurrence
-    let needs = needs_at(alloc, &theory, 0)?;
-    assert_eq!(rt;
-        needs.as_slice(),
-        [named('C'), named('D'), named('B')].as_slice()
-    );
+    Some(names)
+}
+
+/// Whether the first rule needs C, D and B, in the order of their first occurrence.
+fn is_needed(alloc: Global, theory: &Theory) -> Option<bool> {
+    let rule = theory.rule(0)?;
+    let names = names_of(alloc, rule.needs.as_slice())?;
+    Some(names.as_slice() == [named('C'), named('D'), named('B')].as_slice())
+}
+
+#[test]
+fn needs_stand_in_the_order_of_their_first_occurrence(rt: HostRuntime) -> Result<(), Fail> {
+    let mut theory = Theory::new(rt.alloc());
+    add_all(rt.alloc(), &mut theory, &RULES)?;
+    check(0, is_needed(rt.alloc(), &theory))
+}
+
+// ## Addresses
+
+/// The address of the term itself, and the longest that takes no allocation and one that is longer.
+static ADDRESSES: [&[u32]; 3] = [
+    &[],
+    &[7, 0, 6, 1, 5, 2, 4, 3],
+    &[7, 0, 6, 1, 5, 2, 4, 3, 19999],
+];
+
+fn address(alloc: Global, steps: &[u32]) -> Option<Address> {
+    let mut address = Address::new(alloc);
+    for step in steps {
+        address.push(*step).ok()?;
+    }
+    Some(address)
+}
+
+/// Whether the address and a copy of it have these steps.
+fn is_address(alloc: Global, steps: &[u32]) -> Option<bool> {
+    let address = address(alloc, steps)?;
+    let copy = address.copy(alloc).ok()?;
+    Some(address.steps() == steps && copy.steps() == steps)
+}
+
+#[test]
+fn an_address_is_read_and_copied(rt: HostRuntime) -> Result<(), Fail> {
+    for (place, steps) in ADDRESSES.iter().enumerate() {
+        check(place, is_address(rt.alloc(), *steps))?;
+    }
     Ok(())
 }

@@ -1,5 +1,6 @@
 //! A logic whose goals are numbers, for the calls of evaluation and of the core.
-ghost use Rattle.std.specs.Prelude.{true, Err};
+ghost use Rattle.std.specs.Prelude.{nat_eq, true, Err};
+ghost use Rattle.std.proofs.lemmas.Bool.{eq-eqb, eqb-true};
 ghost use Rattle.mp_logic.specs.declared.logic.Why.TheVariants.{NoMatch};
 
 use mp_logic::{List, Logic, NoMemory, StepErr, Why};
@@ -14,13 +15,13 @@ impl Logic for Stepless {
 
     type Just = u32;
 
-    ghost good = { λ l g. true };
-
-    ghost allowed = { λ l j. true };
-
-    ghost step_of = { λ l j g. Err NoMatch };
-
-    ghost width_of = { λ l. 0 };
+    ghost meaning = { λ l. record {
+      good = λ g. true;
+      allowed = λ j. true;
+      step = λ j g. Err NoMatch;
+      same = nat_eq;
+      width = 0;
+    } };
 
     fn step(&self, _alloc: Global, _just: &u32, _goal: &u32) -> Result<List<u32>, StepErr> {
         Err(StepErr::Refused(Why::NoMatch))
@@ -42,7 +43,9 @@ impl Logic for Stepless {
         0
     }
 
-    ghost keeps_good = { λ l j g allowed good. tt };
-
-    ghost within_width = { λ l j g allowed good. tt };
+    ghost lawful = { λ l. record {
+      keeps_good = λ j g allowed good. tt;
+      within_width = λ j g allowed good. tt;
+      same_is = λ a b. (eqb-true a b, eq-eqb a b);
+    } };
 }

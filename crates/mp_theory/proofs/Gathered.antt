@@ -1,5 +1,6 @@
 -- What is gathered from a list, item by item.
 use Rattle.std.proofs.Common.{◌≡◌, ℕ, List, [], ◌∷◌, ◌++◌, map, Bool, true, false, ◌||◌, if◌then◌else◌, nat_eq, refl, sym, ap, ◌∙◌, append_assoc, append-nil, rules}
+use Rattle.std.specs.Prelude.{Result, Ok, Err, OnOk}
 use Rattle.std.proofs.lemmas.Grind.{common_steps}
 use Rattle.mp_logic.specs.declared.sym.Sym.{Sym}
 use Rattle.mp_names.specs.Sets.{is_met, with_met}
@@ -35,6 +36,22 @@ uses_bound-is b = search (rules, the_lemmas)
 
 -- what a walk over the uses of a text needs
 pub ruleset gathering = (common_steps, fresh-append, with_all-append, append_assoc, uses_bound-is)
+
+-- what follows from a fact of a success
+pub then_ok : {X E : Type 0} (r : Result X E) (P Q : Type 0) → (P → Q) → OnOk r P → OnOk r Q
+then_ok (Ok x) P Q h p = h p
+then_ok (Err e) P Q h p = tt
+
+-- what is gathered of a use and of those in its arguments
+pub use_held : (met mid_met : List ℕ) (held mid last : List Need) (u : Need) (rest all : List Need) → all ≡ u ∷ rest → mid ≡ held ++ fresh_uses met (u ∷ []) →
+    mid_met ≡ with_met met u.name.0 → last ≡ mid ++ fresh_uses mid_met rest → last ≡ held ++ fresh_uses met all
+use_held met mid_met held mid last u rest all is here known there =
+    there
+    ∙ ap (λ hs. hs ++ fresh_uses mid_met rest) here
+    ∙ append_assoc held (fresh_uses met (u ∷ [])) (fresh_uses mid_met rest)
+    ∙ ap (λ ns. held ++ (fresh_uses met (u ∷ []) ++ fresh_uses ns rest)) known
+    ∙ ap (λ us. held ++ us) (sym (fresh-append met (u ∷ []) rest))
+    ∙ ap (λ us. held ++ fresh_uses met us) (sym is)
 
 -- ## Fresh uses are needs
 

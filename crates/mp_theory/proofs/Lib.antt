@@ -1,4 +1,10 @@
 pub mod Entries
+pub mod FewUses
+pub mod ForNeeds
 pub mod Gathered
+pub mod Laws
+pub mod LookUps
+pub mod SamePremises
+pub mod Sound
 pub mod Transfer
 pub mod Uses

@@ -1,5 +1,5 @@
 -- What holds of the values of a conclusion and of the needs holds of the values of the premises.
-use Rattle.std.proofs.Common.{◌≡◌, ◌≤◌, ◌⊎◌, inl, inr, List, length, Bool, true, false, refl, ap, ◌∙◌, subst, arith}
+use Rattle.std.proofs.Common.{◌≡◌, ◌≤◌, ◌⊎◌, inl, inr, List, length, Bool, true, false, refl, sym, ap, ◌∙◌, subst}
 use Rattle.std.specs.List.{flat_map}
 use Rattle.mp_schema.specs.declared.schema.Schema.{Schema}
 use Rattle.mp_schema.specs.Conditions.{has, has_all, context_names}
@@ -47,8 +47,7 @@ module _ (ps : List Schema) (c : Schema) where
       by_need : (p : Schema) (o : Occurrence) (n : Need) → In p ps → In o (occurrences_in_schema p) → In n (needs_of ps c) → n.name ≡ o.name → Q (kind_of o)
       by_need p o n i j k e =
           let f = need-from ps c n k in
-          let few = even.few f.premise f.at f.in_premises f.there in
-          let count : n.arity ≡ length f.at.levels = let a = ap (λ (m : Need). m.arity) f.same in omega arith in
+          let count : n.arity ≡ length f.at.levels = sym (ap (λ (m : Need). m.arity) f.same) in
           let names : f.at.name ≡ n.name = ap (λ (m : Need). m.name) f.same in
           let lists : f.at.ctxs ≡ n.ctxs = ap (λ (m : Need). m.ctxs) f.same in
           subst Q (need_kind n f.at count names lists f.plain ∙ same_kinds (occurrences_of_rule ps c) even.consistent f.at o (in_rule f.premise f.at f.in_premises f.there) (in_rule p o i j) (names ∙ e)) (needed n k)

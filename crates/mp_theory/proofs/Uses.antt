@@ -1,5 +1,5 @@
 -- The needs of a rule, as occurrences in its premises.
-use Rattle.std.proofs.Common.{◌≡◌, ◌⊎◌, inl, inr, ℕ, List, [], ◌∷◌, ◌++◌, map, length, min, Bool, true, false, nat_eq, if◌then◌else◌, refl, sym, ap, ◌∙◌, subst, arith, rules}
+use Rattle.std.proofs.Common.{◌≡◌, ◌⊎◌, inl, inr, ℕ, List, [], ◌∷◌, ◌++◌, map, length, Bool, true, false, nat_eq, if◌then◌else◌, refl, sym, ap, ◌∙◌, subst, arith, rules}
 use Rattle.std.specs.Prelude.{◌||◌}
 use Rattle.std.specs.List.{flat_map}
 use Rattle.std.proofs.lemmas.Bool.Decides.{nat_tests}
@@ -25,7 +25,7 @@ use Rattle.mp_schema.proofs.UseKinds.{same_name, nat_eq-itself}
 -- ## Uses are the occurrences that are no contexts
 
 abbrev pub use_at : Occurrence → Need
-use_at o = record { name = o.name; ctxs = o.ctxs; arity = min (length o.levels) 4294967295 }
+use_at o = record { name = o.name; ctxs = o.ctxs; arity = length o.levels }
 
 abbrev pub uses_in : List Occurrence → List Need
 uses_in [] = []
@@ -46,10 +46,10 @@ uses_of-Var l = search (rules, the_lemmas)
 uses_of-Op : (o : Sym) (ps : List ParamPat) (subs : List PBound) → uses_of (pat.Op o ps subs) ≡ all_uses (map uses_bound subs)
 uses_of-Op o ps subs = search (rules, the_lemmas)
 
-uses_of-Meta : (n : Sym) (cs : List Sym) (args : List Pattern) →
-    uses_of (pat.Meta n cs args) ≡ record { name = n; ctxs = cs; arity = min (length args) 4294967295 } ∷ all_uses (map uses_of args)
+pub uses_of-Meta : (n : Sym) (cs : List Sym) (args : List Pattern) →
+    uses_of (pat.Meta n cs args) ≡ record { name = n; ctxs = cs; arity = length args } ∷ all_uses (map uses_of args)
 uses_of-Meta n cs args =
-    let e : uses_of (pat.Meta n cs args) ≡ record { name = n; ctxs = cs; arity = min (length (map uses_of args)) 4294967295 } ∷ all_uses (map uses_of args)
+    let e : uses_of (pat.Meta n cs args) ≡ record { name = n; ctxs = cs; arity = length (map uses_of args) } ∷ all_uses (map uses_of args)
     = search (rules, the_lemmas) in
     rw (length-map args uses_of) at e
 
@@ -78,8 +78,8 @@ used =
     (λ o ps subs h. uses_of-Op o ps subs ∙ used_bodies subs h ∙ ap uses_in (sym (occurrences_in-Op o ps subs)))
     (λ n cs args h.
     let many : length (map variable_level args) ≡ length args = length-map args variable_level in
-    let first : (record { name = n; ctxs = cs; arity = min (length args) 4294967295 } ∷ all_uses (map uses_of args))
-    ≡ (record { name = n; ctxs = cs; arity = min (length (map variable_level args)) 4294967295 } ∷ uses_in (flat_map occurrences_in args)) = rw (many, used_args args h) refl in
+    let first : (record { name = n; ctxs = cs; arity = length args } ∷ all_uses (map uses_of args))
+    ≡ (record { name = n; ctxs = cs; arity = length (map variable_level args) } ∷ uses_in (flat_map occurrences_in args)) = rw (many, used_args args h) refl in
     uses_of-Meta n cs args ∙ first ∙ ap uses_in (sym (occurrences_in-Meta n cs args)))
 
 used_each : (args : List Pattern) → all_uses (map uses_of args) ≡ uses_in (flat_map occurrences_in args)
@@ -145,11 +145,6 @@ needed-in (n ∷ ns) name e = by (nat_eq n.name.0 name.0) refl e (needed-in ns n
     by : (b : Bool) → nat_eq n.name.0 name.0 ≡ b → (b || is_needed ns name) ≡ true → (is_needed ns name ≡ true → NeedIn ns name) → NeedIn (n ∷ ns) name
     by true t k rest = record { need = n; there = inl refl; named = same_name n.name name t }
     by false t k rest = let r = rest k in record { need = r.need; there = inr r.there; named = r.named }
-
-pub in-needed : (ns : List Need) (n : Need) → In n ns → is_needed ns n.name ≡ true
-in-needed [] n i = absurd i
-in-needed (x ∷ ns) n (inl e) = let k = nat_eq-itself n.name.0 in let same : x.name ≡ n.name = ap (λ (y : Need). y.name) e in rw same (rw k refl)
-in-needed (x ∷ ns) n (inr i) = let ih = in-needed ns n i in grind (arith, common_steps, ih)
 
 needed-append : (ns ms : List Need) (name : Sym) → is_needed (ns ++ ms) name ≡ (is_needed ns name || is_needed ms name)
 needed-append [] ms name = refl

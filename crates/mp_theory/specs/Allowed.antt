@@ -1,5 +1,5 @@
 -- Which goals and which justifications a theory's steps are tried on.
-use Rattle.std.specs.Prelude.{ℕ, ◌+◌, List, [], ◌∷◌, Bool, true, false, nat_eq, nat_le, ◌&&◌, Option, Some, None, is_some, slice_get}
+use Rattle.std.specs.Prelude.{ℕ, ◌+◌, List, [], ◌∷◌, Bool, true, false, nat_eq, nat_le, ◌&&◌, Option, Some, None, is_some}
 use Rattle.mp_term.specs.declared.sequent.Sequent.{Sequent}
 use Rattle.mp_term.specs.Terms.{depth_of, in_scope_of}
 use Rattle.mp_term.specs.Limits.{within_limits_of, sequent_in_scope_of, sequent_few_binders_of, few_binders_of}
@@ -10,7 +10,7 @@ use Rattle.mp_theory.specs.declared.just.Given.{Given}
 use Rattle.mp_theory.specs.declared.just.Just.{Just}
 use Rattle.mp_theory.specs.declared.just.Just.TheVariants as just
 use Rattle.mp_theory.specs.Needs.{needs_of}
-use Rattle.mp_theory.specs.Tables.{is_faultless}
+use Rattle.mp_theory.specs.Tables.{Laws, rule_at, is_faultless}
 use Rattle.mp_logic.specs.Lists.{same_bool}
 
 -- each term is in its scope, no subterm has more than 8 binders, and the sequent is within the limits
@@ -39,5 +39,5 @@ is_allowed_at (Some rule) first given =
 
 -- the justification names a rule that a theory may have, says the size of the first context exactly where the rule's
 -- conclusion has two, and gives what the rule needs
-abbrev pub is_allowed : List Rule → Just → Bool
-is_allowed rules (just.Rule place first given) = is_allowed_at (slice_get rules place) first given
+abbrev pub is_allowed : Laws → Just → Bool
+is_allowed t (just.Rule place first given) = is_allowed_at (rule_at t place) first given

@@ -1,4 +1,5 @@
 pub mod Allowed
 pub mod Fresh
+pub mod Laws
 pub mod Needs
 pub mod Tables

@@ -1,5 +1,5 @@
 -- What a rule's premises need that its conclusion doesn't have.
-use Rattle.std.specs.Prelude.{List, [], ◌∷◌, ◌++◌, map, length, min, Bool, false, nat_eq, ◌||◌, if◌then◌else◌}
+use Rattle.std.specs.Prelude.{List, [], ◌∷◌, ◌++◌, map, length, Bool, false, nat_eq, ◌||◌, if◌then◌else◌}
 use Rattle.mp_logic.specs.declared.sym.Sym.{Sym}
 use Rattle.mp_schema.specs.declared.pattern.Pattern.{Pattern, Pattern-F}
 use Rattle.mp_schema.specs.declared.pattern.PBound.{PBound, PBound-F}
@@ -15,11 +15,11 @@ abbrev pub all_uses : List (List Need) → List Need
 all_uses [] = []
 all_uses (x ∷ xs) = x ++ all_uses xs
 
--- an arity is counted up to the greatest 32 bits; no rule of a theory has so many arguments
+-- a second-order variable is a use, and then come those in its arguments
 abbrev pub uses_step : Pattern-F (List Need) (List Need) → List Need
 uses_step (layer.Var level) = []
 uses_step (layer.Op op params subs) = all_uses subs
-uses_step (layer.Meta name ctxs args) = record { name = name; ctxs = ctxs; arity = min (length args) 4294967295 } ∷ all_uses args
+uses_step (layer.Meta name ctxs args) = record { name = name; ctxs = ctxs; arity = length args } ∷ all_uses args
 
 -- the uses in a bound body are its pattern's
 abbrev pub uses_bound_step : PBound-F (List Need) (List Need) → List Need

@@ -1,7 +1,10 @@
 #![tactic(auto, using(crate::proofs::Gathered::gathering))]
 
-ghost use Rattle.std.specs.Prelude.{◌≡◌, ◌++◌, ◌∷◌, [], map, length, IfOk, OnOk};
+ghost use Rattle.std.specs.Prelude.{◌≡◌, ◌++◌, ◌∷◌, [], map, length, IfOk, OnOk, None, true, All};
 ghost use Rattle.mp_names.specs.Sets.{with_met};
+ghost use Rattle.mp_schema.specs.Faultless.{IsLimitedSchema};
+ghost use Rattle.mp_schema.specs.Faults.{rule_fault_of};
+ghost use Rattle.mp_schema.specs.Limits.{few_of, few_of_bound, few_of_item};
 ghost use Rattle.mp_theory.specs.Needs.{needs_of, all_uses, uses_of, uses_bound, item_uses, schema_uses};
 ghost use Rattle.mp_theory.specs.Fresh.{fresh_uses, with_all};
 
@@ -11,9 +14,6 @@ use mp_names::NameSet;
 use mp_schema::{Item, PBound, Pattern, Schema};
 use std::alloc::Global;
 
-// `Need::arity` is a u32, so a longer list counts as the greatest. A rule of a theory has at most 8 arguments.
-const WIDEST_ARITY: u64 = 4294967295;
-
 /// The second-order variables of the premises that the conclusion doesn't have, in the order of their first uses.
 #[tactic(auto, using(crate::proofs::Gathered::needs_fresh))]
 pub(crate) fn find_needs(
@@ -21,6 +21,7 @@ pub(crate) fn find_needs(
     premises: &List<Schema>,
     concl: &Schema,
 ) -> Result<List<Need>, NoMemory>
+    requires { rule_fault_of premises.now concl.now ≡ None }
     ensures { IfOk result (λ needs. needs ≡ needs_of premises.now concl.now) }
 {
     // What the conclusion has is met first, and is no need.
@@ -38,6 +39,7 @@ fn gather_premises(
     met: &mut NameSet,
     held: &mut List<Need>,
 ) -> Result<(), NoMemory>
+    requires { All IsLimitedSchema premises.now }
     ensures held { OnOk result (held.new ≡ held.old ++ fresh_uses met.old (all_uses (map schema_uses premises.now))) }
     ensures met { OnOk result (met.new ≡ with_all met.old (all_uses (map schema_uses premises.now))) }
 {
@@ -53,6 +55,7 @@ fn gather_schema(
     met: &mut NameSet,
     held: &mut List<Need>,
 ) -> Result<(), NoMemory>
+    requires { IsLimitedSchema schema.now }
     ensures held { OnOk result (held.new ≡ held.old ++ fresh_uses met.old (schema_uses schema.now)) }
     ensures met { OnOk result (met.new ≡ with_all met.old (schema_uses schema.now)) }
 {
@@ -66,6 +69,7 @@ fn gather_items(
     met: &mut NameSet,
     held: &mut List<Need>,
 ) -> Result<(), NoMemory>
+    requires { All (λ item. few_of_item item ≡ true) items.now }
     ensures held { OnOk result (held.new ≡ held.old ++ fresh_uses met.old (all_uses (map item_uses items.now))) }
     ensures met { OnOk result (met.new ≡ with_all met.old (all_uses (map item_uses items.now))) }
 {
@@ -81,6 +85,7 @@ fn gather_item(
     met: &mut NameSet,
     held: &mut List<Need>,
 ) -> Result<(), NoMemory>
+    requires { few_of_item item.now ≡ true }
     ensures held { OnOk result (held.new ≡ held.old ++ fresh_uses met.old (item_uses item.now)) }
     ensures met { OnOk result (met.new ≡ with_all met.old (item_uses item.now)) }
 {
@@ -97,6 +102,7 @@ fn gather_pattern(
     met: &mut NameSet,
     held: &mut List<Need>,
 ) -> Result<(), NoMemory>
+    requires { few_of pattern.now ≡ true }
     ensures held { OnOk result (held.new ≡ held.old ++ fresh_uses met.old (uses_of pattern.now)) }
     ensures met { OnOk result (met.new ≡ with_all met.old (uses_of pattern.now)) }
 {
@@ -104,8 +110,7 @@ fn gather_pattern(
         Pattern::Var(_) => Ok(()),
         Pattern::Op { subs, .. } => gather_bodies(alloc, subs.as_slice(), met, held),
         Pattern::Meta { name, ctxs, args } => {
-            let arity = args.len().min(WIDEST_ARITY) as u32;
-            join(alloc, *name, ctxs, arity, met, held)?;
+            join(alloc, *name, ctxs, args.len() as u32, met, held)?;
             gather_arguments(alloc, args.as_slice(), met, held)
         }
     }
@@ -118,6 +123,7 @@ fn gather_bodies(
     met: &mut NameSet,
     held: &mut List<Need>,
 ) -> Result<(), NoMemory>
+    requires { All (λ sub. few_of_bound sub ≡ true) subs.now }
     ensures held { OnOk result (held.new ≡ held.old ++ fresh_uses met.old (all_uses (map uses_bound subs.now))) }
     ensures met { OnOk result (met.new ≡ with_all met.old (all_uses (map uses_bound subs.now))) }
 {
@@ -134,6 +140,7 @@ fn gather_arguments(
     met: &mut NameSet,
     held: &mut List<Need>,
 ) -> Result<(), NoMemory>
+    requires { All (λ arg. few_of arg ≡ true) args.now }
     ensures held { OnOk result (held.new ≡ held.old ++ fresh_uses met.old (all_uses (map uses_of args.now))) }
     ensures met { OnOk result (met.new ≡ with_all met.old (all_uses (map uses_of args.now))) }
 {

@@ -1,100 +1,200 @@
 -- The least fault so far goes on from one part to the next.
-use Rattle.std.proofs.Common.{◌≡◌, ◌++◌, ◌+◌, ◌<◌, ℕ, List, [], ◌∷◌, Option, Bool, true, if◌then◌else◌, refl, ap, sym, ◌∙◌, drop, length, get_or, nat_lt, nat_eq, ◌||◌, subst}
+use Rattle.std.proofs.Common.{◌≡◌, ◌++◌, ◌+◌, ◌<◌, ℕ, List, [], ◌∷◌, Option, None, Some, Bool, true, false, not, ◌&&◌, ◌||◌, nat_eq, nat_lt, if◌then◌else◌, refl, ap, sym, ◌∙◌, append-nil, true≢false, drop, take, length, get_or, map, arith}
 use Rattle.std.specs.List.{flat_map}
+use Rattle.std.specs.Prelude.{is_some, slice_get}
+use Rattle.std.proofs.lemmas.Bool.Decides.{nat_tests}
 use Rattle.mp_logic.specs.declared.sym.Sym.{Sym}
-use Rattle.mp_words.specs.declared.fault.Fault.{Fault}
-use Rattle.mp_words.specs.declared.fail.TextWhy.TheVariants as why
-use Rattle.mp_words.specs.Faults.{least_from, too_many, fault_if}
-use Rattle.mp_words.proofs.Soonest.{least_from_append}
-use Rattle.mp_words.proofs.FaultParts.{two_parts, three_parts, four_parts}
-use Rattle.mp_words.proofs.Walks.{left_cons}
-use Rattle.mp_schematext.specs.declared.raw.RawItem.{RawItem}
-use Rattle.mp_schematext.specs.declared.raw.RawSchema.{RawSchema}
+use Rattle.mp_names.specs.Sets.{Met, is_among, place_of}
+use Rattle.mp_names.proofs.Places.{placed_met}
 use Rattle.mp_schema.specs.Conditions.{has}
-use Rattle.mp_names.specs.Sets.{is_met, with_met, is_among, Met}
-use Rattle.mp_names.proofs.Meeting.{meeting}
+use Rattle.mp_theory.specs.Tables.{Laws, name_taken}
+use Rattle.mp_words.specs.declared.fail.TextErr.{TextErr}
+use Rattle.mp_words.specs.declared.fail.TextWhy.{TextWhy}
+use Rattle.mp_words.specs.declared.fail.TextWhy.TheVariants as why
+use Rattle.mp_words.specs.declared.raw.RawName.{RawName}
+use Rattle.mp_words.specs.Faults.{fault_at_any, fault_if, is_behind, least, least_from, rank_of, too_many}
+use Rattle.mp_words.specs.Seconds.{second_after, second_faults}
+use Rattle.mp_words.proofs.Soonest.{least_from_append}
+use Rattle.mp_words.proofs.FaultParts.{flat_next, two_parts, three_parts, four_parts}
+use Rattle.mp_words.proofs.MetWalks.{names_next}
+use Rattle.mp_words.proofs.Walks.{left_cons}
+use Rattle.mp_termtext.specs.Statics.{deep, each_faults}
+use Rattle.mp_schematext.specs.declared.raw.RawParamPat.{RawParamPat}
+use Rattle.mp_schematext.specs.declared.raw.RawPatternBound.{RawPatternBound}
+use Rattle.mp_schematext.specs.declared.raw.RawPattern.{RawPattern}
+use Rattle.mp_schematext.specs.declared.raw.RawPattern as raw
+use Rattle.mp_schematext.specs.declared.raw.RawItem.{RawItem}
+use Rattle.mp_schematext.specs.declared.raw.RawItem.TheVariants as item
+use Rattle.mp_schematext.specs.declared.raw.RawSchema.{RawSchema}
 use Rattle.mp_schematext.specs.declared.raw.RawRule.{RawRule}
-use Rattle.mp_theorytext.specs.Scopes.{syms_of, contexts_past, contexts_behind, env_past, env_behind}
-use Rattle.mp_theorytext.specs.declared.uses.First.{First}
-use Rattle.mp_theorytext.specs.Uses.{Use, list_faults, argument_faults, find_first, unless_like, use_faults, uses_faults, uses_in_item, uses_in_items, uses_in_rule, hole_faults, raw_schema_holes}
-use Rattle.mp_theorytext.specs.Statics.{twice_faults, concl_item_faults, premise_item_faults, item_node_faults, item_faults, items_faults, item_left, node_faults, raw_schema_size_of, schema_faults, premises_faults, contexts_of, rule_faults, rules_faults}
+use Rattle.mp_theorytext.specs.Scopes.{context_in, contexts_of, contexts_past, env_behind, env_past, syms_of}
+use Rattle.mp_theorytext.specs.Nodes.{Argument, argument_faults, argument_of, bound_node_faults, dangling_faults, list_faults, node_faults, param_place, use_faults}
+use Rattle.mp_theorytext.specs.Statics.{conclusion_faults, frame_faults, item_at, item_faults, items_faults, misplaced_faults, premise_faults, raw_schema_size_of, rule_faults, schema_faults, theory_faults, uses_faults}
+use Rattle.mp_theorytext.specs.Uses.{hole_faults, raw_schema_holes, uses_in_rule}
+use Rattle.mp_theorytext.proofs.RawLayers.{node_faults-Meta, node_faults-Op}
+use Rattle.mp_theorytext.proofs.Twice.{among_has}
 
-module _ (final : Bool) (concl : List Sym) (items : List RawItem) (i : ℕ) (x : RawItem) (lt : i < length items) (is : x ≡ get_or items i x) where
-  pub items_next : (known after env behind : List Sym) (held next whole : Option Fault) → next ≡ least_from held (item_faults final concl known env x) → after ≡ contexts_past x known → behind ≡ env_past x env
-      → least_from held (items_faults final concl known env (drop i items)) ≡ whole → least_from next (items_faults final concl after behind (drop (i + 1) items)) ≡ whole
+syms_both : (xs ys : List RawName) → syms_of (xs ++ ys) ≡ syms_of xs ++ syms_of ys
+syms_both [] ys = refl
+syms_both (x ∷ xs) ys = ap (λ ns. x.name ∷ ns) (syms_both xs ys)
+
+module _ (final : Bool) (items : List RawItem) (i : ℕ) (x : RawItem) (lt : i < length items) (is : x ≡ get_or items i x) where
+  pub items_next : (known after : List RawName) (env behind : List Sym) (held next whole : Option TextErr) → next ≡ least_from held (item_faults (syms_of known) final x env) → after ≡ known ++ context_in x → behind ≡ env_past x env
+      → least_from held (items_faults (syms_of known) final (drop i items) env) ≡ whole → least_from next (items_faults (syms_of after) final (drop (i + 1) items) behind) ≡ whole
   items_next known after env behind held next whole found grown bound prev =
       let rest = drop (i + 1) items in
-      (λ k. least_from next (items_faults final concl (grown k) (bound k) rest)) ∙ ap (λ o. least_from o (items_faults final concl (contexts_past x known) (env_past x env) rest)) found
-      ∙ sym (least_from_append held (item_faults final concl known env x) (items_faults final concl (contexts_past x known) (env_past x env) rest))
-      ∙ ap (λ ys. least_from held (items_faults final concl known env ys)) (sym (left_cons items i x lt is)) ∙ prev
+      let seen : syms_of after ≡ contexts_past x (syms_of known) = ap syms_of grown ∙ syms_both known (context_in x) in
+      (λ k. least_from next (items_faults (seen k) final rest (bound k))) ∙ ap (λ o. least_from o (items_faults (contexts_past x (syms_of known)) final rest (env_past x env))) found
+      ∙ sym (least_from_append held (item_faults (syms_of known) final x env) (items_faults (contexts_past x (syms_of known)) final rest (env_past x env)))
+      ∙ ap (λ ys. least_from held (items_faults (syms_of known) final ys env)) (sym (left_cons items i x lt is)) ∙ prev
 
   pub bound_next : (env behind whole : List Sym) → behind ≡ env_past x env → env_behind (drop i items) env ≡ whole → env_behind (drop (i + 1) items) behind ≡ whole
   bound_next env behind whole bound prev = ap (env_behind (drop (i + 1) items)) bound ∙ ap (λ ys. env_behind ys env) (sym (left_cons items i x lt is)) ∙ prev
 
-  pub contexts_next : (known after whole : List Sym) → after ≡ contexts_past x known → contexts_behind (drop i items) known ≡ whole → contexts_behind (drop (i + 1) items) after ≡ whole
-  contexts_next known after whole grown prev = ap (contexts_behind (drop (i + 1) items)) grown ∙ ap (λ ys. contexts_behind ys known) (sym (left_cons items i x lt is)) ∙ prev
-
-  -- the uses of the items from one on are those of it and those of the rest
-  pub uses_opened : (known after : List Sym) → after ≡ contexts_past x known → uses_in_items (drop i items) known final ≡ uses_in_item x known final ++ uses_in_items (drop (i + 1) items) after final
-  uses_opened known after grown = ap (λ ys. uses_in_items ys known final) (left_cons items i x lt is) ∙ ap (λ ns. uses_in_item x known final ++ uses_in_items (drop (i + 1) items) ns final) (sym grown)
-
 -- the parts of a schema
-pub schema_parts : (final : Bool) (concl : List Sym) (s : RawSchema) (items : List RawItem) (env behind : List Sym) (held a b c d : Option Fault) → items ≡ s.items → env ≡ [] → a ≡ least_from held (too_many item_left 200 items)
-    → b ≡ least_from a (items_faults final concl [] env items) → behind ≡ env_behind items env → c ≡ least_from b (node_faults s.concl behind 1) → d ≡ least_from c (fault_if (nat_lt 20000 (raw_schema_size_of s)) s.left why.TooBig)
-    → d ≡ least_from held (schema_faults final concl s)
-schema_parts final concl s items env behind held a b c d same none e f bound g h =
-    let e' : a ≡ least_from held (too_many item_left 200 s.items) = e ∙ ap (λ is. least_from held (too_many item_left 200 is)) same in
-    let f' : b ≡ least_from a (items_faults final concl [] [] s.items) = f ∙ (λ k. least_from a (items_faults final concl [] (none k) (same k))) in
-    let g' : c ≡ least_from b (node_faults s.concl (env_behind s.items []) 1) = g ∙ ap (λ v. least_from b (node_faults s.concl v 1)) (bound ∙ (λ k. env_behind (same k) (none k))) in
-    four_parts held a b c d (too_many item_left 200 s.items) (items_faults final concl [] [] s.items) (node_faults s.concl (env_behind s.items []) 1) (fault_if (nat_lt 20000 (raw_schema_size_of s)) s.left why.TooBig) e' f' g' h
-
--- the parts of an item
-pub item_parts : (final : Bool) (concl known env : List Sym) (i : RawItem) (held a b c : Option Fault) → a ≡ least_from held (twice_faults known i)
-    → b ≡ least_from a (if final then concl_item_faults concl known i else premise_item_faults concl i) → c ≡ least_from b (item_node_faults i env) → c ≡ least_from held (item_faults final concl known env i)
-item_parts final concl known env i held a b c e f g =
-    three_parts held a b c (twice_faults known i) (if final then concl_item_faults concl known i else premise_item_faults concl i) (item_node_faults i env) e f g
-
--- the parts of a use
-pub use_parts : (held a b c d : Option Fault) (firsts : List First) (u : Use) → a ≡ least_from held (too_many (λ c. c.left) 8 u.ctxs ++ too_many (λ a. a.left) 8 u.args) → b ≡ least_from a (list_faults u.known [] u.ctxs)
-    → c ≡ least_from b (if u.in_conclusion then argument_faults [] u.args else []) → d ≡ least_from c (unless_like (find_first firsts u.name) u) → d ≡ least_from held (use_faults firsts u)
-use_parts held a b c d firsts u e f g h =
-    four_parts held a b c d (too_many (λ c. c.left) 8 u.ctxs ++ too_many (λ a. a.left) 8 u.args) (list_faults u.known [] u.ctxs) (if u.in_conclusion then argument_faults [] u.args else []) (unless_like (find_first firsts u.name) u) e f g h
+pub schema_parts : (final : Bool) (s : RawSchema) (items : List RawItem) (known seen contexts : List RawName) (env behind : List Sym) (held a b c d e : Option TextErr) → items ≡ s.items → contexts ≡ contexts_of s → known ≡ contexts → seen ≡ contexts → env ≡ []
+    → a ≡ least_from held (too_many item_at 200 items) → b ≡ least_from a (second_faults (λ (n : RawName). n) why.TwiceContext known) → c ≡ least_from b (items_faults [] final items env) → behind ≡ env_behind items env
+    → d ≡ least_from c (node_faults (syms_of seen) final s.concl behind 1) → e ≡ least_from d (fault_if (nat_lt 20000 (raw_schema_size_of s)) s.at why.TooBig) → e ≡ least_from held (schema_faults final s)
+schema_parts final s items known seen contexts env behind held a b c d e same all k q none f g h bound l m =
+    let f' : a ≡ least_from held (too_many item_at 200 s.items) = f ∙ ap (λ is. least_from held (too_many item_at 200 is)) same in
+    let g' : b ≡ least_from a (second_faults (λ (n : RawName). n) why.TwiceContext (contexts_of s)) = g ∙ ap (λ ns. least_from a (second_faults (λ (n : RawName). n) why.TwiceContext ns)) (k ∙ all) in
+    let h' : c ≡ least_from b (items_faults [] final s.items []) = h ∙ (λ i. least_from b (items_faults [] final (same i) (none i))) in
+    let l' : d ≡ least_from c (node_faults (syms_of (contexts_of s)) final s.concl (env_behind s.items []) 1) = l ∙ (λ i. least_from c (node_faults (syms_of ((q ∙ all) i)) final s.concl ((bound ∙ (λ j. env_behind (same j) (none j))) i) 1)) in
+    let nodes = node_faults (syms_of (contexts_of s)) final s.concl (env_behind s.items []) 1 in
+    two_parts held d e (too_many item_at 200 s.items ++ second_faults (λ (n : RawName). n) why.TwiceContext (contexts_of s) ++ items_faults [] final s.items [] ++ nodes) (fault_if (nat_lt 20000 (raw_schema_size_of s)) s.at why.TooBig)
+    (four_parts held a b c d (too_many item_at 200 s.items) (second_faults (λ (n : RawName). n) why.TwiceContext (contexts_of s)) (items_faults [] final s.items []) nodes f' g' h' l') m
 
 -- the parts of a rule
-pub rule_parts : (r : RawRule) (concl cs ds : List Sym) (premises : List RawSchema) (held a b c d e : Option Fault) → concl ≡ contexts_of r.concl → cs ≡ concl → ds ≡ concl → premises ≡ r.premises
-    → a ≡ least_from held (too_many (λ s. s.left) 16 r.premises) → b ≡ least_from a (premises_faults cs premises) → c ≡ least_from b (schema_faults true ds r.concl) → d ≡ least_from c (uses_faults [] (uses_in_rule r))
-    → e ≡ least_from d (hole_faults (syms_of (raw_schema_holes r.concl)) (flat_map raw_schema_holes r.premises)) → e ≡ least_from held (rule_faults r)
-rule_parts r concl cs ds premises held a b c d e all c-is d-is same f g h k l =
-    let cs = contexts_of r.concl in
-    let g' : b ≡ least_from a (premises_faults cs r.premises) = g ∙ (λ i. least_from a (premises_faults ((c-is ∙ all) i) (same i))) in
-    let h' : c ≡ least_from b (schema_faults true cs r.concl) = h ∙ ap (λ ns. least_from b (schema_faults true ns r.concl)) (d-is ∙ all) in
-    two_parts held d e (too_many (λ s. s.left) 16 r.premises ++ premises_faults cs r.premises ++ schema_faults true cs r.concl ++ uses_faults [] (uses_in_rule r)) (hole_faults (syms_of (raw_schema_holes r.concl)) (flat_map raw_schema_holes r.premises))
-    (four_parts held a b c d (too_many (λ s. s.left) 16 r.premises) (premises_faults cs r.premises) (schema_faults true cs r.concl) (uses_faults [] (uses_in_rule r)) f g' h' k) l
+pub rule_parts : (r : RawRule) (concl one : List RawName) (premises : List RawSchema) (held a b c d e f : Option TextErr) → concl ≡ contexts_of r.concl → one ≡ concl → premises ≡ r.premises
+    → a ≡ least_from held (too_many (λ (s : RawSchema). s.at) 16 r.premises) → b ≡ least_from a (flat_map (premise_faults (syms_of one)) premises) → c ≡ least_from b (frame_faults r.concl) → d ≡ least_from c (schema_faults true r.concl)
+    → e ≡ least_from d (uses_faults (uses_in_rule r)) → f ≡ least_from e (hole_faults (syms_of (raw_schema_holes r.concl)) (flat_map raw_schema_holes r.premises)) → f ≡ least_from held (rule_faults r)
+rule_parts r concl one premises held a b c d e f all o same g h k l m n =
+    let ps = flat_map (premise_faults (syms_of (contexts_of r.concl))) r.premises in
+    let h' : b ≡ least_from a ps = h ∙ (λ i. least_from a (flat_map (premise_faults (syms_of ((o ∙ all) i))) (same i))) in
+    let kl : d ≡ least_from b (conclusion_faults r.concl) = two_parts b c d (frame_faults r.concl) (schema_faults true r.concl) k l in
+    let many = too_many (λ (s : RawSchema). s.at) 16 r.premises in
+    two_parts held e f (many ++ ps ++ conclusion_faults r.concl ++ uses_faults (uses_in_rule r)) (hole_faults (syms_of (raw_schema_holes r.concl)) (flat_map raw_schema_holes r.premises))
+    (four_parts held a b d e many ps (conclusion_faults r.concl) (uses_faults (uses_in_rule r)) g h' kl m) n
 
--- ## Rules
+not_eq : (a b : ℕ) → (a ≡ b → ⊥) → nat_eq a b ≡ false
+not_eq a b h = by (nat_eq a b) refl
+  where
+    by : (t : Bool) → nat_eq a b ≡ t → nat_eq a b ≡ false
+    by false e = e
+    by true e = absurd (h (grind (arith, nat_tests, e)))
 
-pub among_has : (names : List Sym) (name : Sym) → is_among names name ≡ has names name
-among_has [] name = refl
-among_has (x ∷ xs) name = ap (λ b. nat_eq x.0 name.0 || b) (among_has xs name)
+-- the parts of a second-order variable
+pub meta_parts : (known : List Sym) (final : Bool) (t : RawPattern) (n : Sym) (cs ds : List RawName) (xs ys : List RawPattern) (at : ℕ) (env : List Sym) (d : ℕ) (held a b c : Option TextErr) → t ≡ raw.Meta n cs xs at → ds ≡ cs → ys ≡ xs
+    → a ≡ least_from held (deep d at) → b ≡ least_from a (use_faults known final ds (map argument_of ys)) → c ≡ least_from b (each_faults (map (node_faults known final) ys) env (d + 1)) → c ≡ least_from held (node_faults known final t env d)
+meta_parts known final t n cs ds xs ys at env d held a b c is p q e f g =
+    let uses = use_faults known final cs (map argument_of xs) in
+    let args = each_faults (map (node_faults known final) xs) env (d + 1) in
+    three_parts held a b c (deep d at) uses args e (f ∙ (λ i. least_from a (use_faults known final (p i) (map argument_of (q i))))) (g ∙ (λ i. least_from b (each_faults (map (node_faults known final) (q i)) env (d + 1))))
+    ∙ ap (least_from held) (sym (node_faults-Meta known final n cs xs at env d) ∙ ap (λ r. node_faults known final r env d) (sym is))
 
--- these are the names that were met, and the least fault is that of the rules that are left behind rules of these names
-abbrev pub IsBehind : List ℕ → Option Fault → List RawRule → Option Fault → Type 0
-IsBehind met held rest whole = (taken : List Sym) × (Met met taken × (least_from held (rules_faults taken rest) ≡ whole))
+-- the parts of an operation
+pub op_parts : (known : List Sym) (final : Bool) (t : RawPattern) (n : Sym) (ps qs : List RawParamPat) (ks us : List RawPatternBound) (at : ℕ) (env : List Sym) (d : ℕ) (held a b c : Option TextErr) → t ≡ raw.Op n ps ks at → qs ≡ ps → us ≡ ks
+    → a ≡ least_from held (deep d at) → b ≡ least_from a (too_many param_place 16 qs) → c ≡ least_from b (each_faults (map (bound_node_faults known final) us) env (d + 1)) → c ≡ least_from held (node_faults known final t env d)
+op_parts known final t n ps qs ks us at env d held a b c is p q e f g =
+    let many = too_many param_place 16 ps in
+    let subs = each_faults (map (bound_node_faults known final) ks) env (d + 1) in
+    three_parts held a b c (deep d at) many subs e (f ∙ (λ i. least_from a (too_many param_place 16 (p i)))) (g ∙ (λ i. least_from b (each_faults (map (bound_node_faults known final) (q i)) env (d + 1))))
+    ∙ ap (least_from held) (sym (node_faults-Op known final n ps ks at env d) ∙ ap (λ r. node_faults known final r env d) (sym is))
 
--- one rule more
-pub rules_next : (rs : List RawRule) (i : ℕ) (r : RawRule) (met after : List ℕ) (held mid next whole : Option Fault) → i < length rs → r ≡ get_or rs i r → after ≡ with_met met r.name.name.0
-    → mid ≡ least_from held (fault_if (is_met met r.name.name.0) r.name.left why.Taken) → next ≡ least_from mid (rule_faults r)
-    → IsBehind met held (drop i rs) whole → IsBehind after next (drop (i + 1) rs) whole
-rules_next rs i r met after held mid next whole lt is grown e f (taken, (are_met, prev)) =
-    let name = r.name.name in
-    let rest = rules_faults (taken ++ name ∷ []) (drop (i + 1) rs) in
-    let one = fault_if (has taken name) r.name.left why.Taken in
-    let e' : mid ≡ least_from held one = e ∙ ap (λ b. least_from held (fault_if b r.name.left why.Taken)) (are_met name ∙ among_has taken name) in
-    let are_met' : Met after (taken ++ name ∷ []) = subst (λ ns. Met ns (taken ++ name ∷ [])) (sym grown) (meeting met taken name are_met) in (
-      taken ++ name ∷ [],
-      (
-        are_met',
-        three_parts held mid next (least_from next rest) one (rule_faults r) rest e' f refl
-            ∙ ap (λ ys. least_from held (rules_faults taken ys)) (sym (left_cons rs i r lt is)) ∙ prev,
-      ),
-    )
+-- the parts of a context among the items
+pub context_parts : (known : List Sym) (final : Bool) (t : RawItem) (n : RawName) (cs ds : List RawName) (xs ys : List RawPattern) (at : ℕ) (env : List Sym) (held a b : Option TextErr) → t ≡ item.Ctx n cs xs at → ds ≡ cs → ys ≡ xs
+    → a ≡ least_from held (use_faults known final ds (map argument_of ys)) → b ≡ least_from a (each_faults (map (node_faults known final) ys) env 2) → b ≡ least_from held (item_faults known final t env)
+context_parts known final t n cs ds xs ys at env held a b is p q e f =
+    two_parts held a b (use_faults known final cs (map argument_of xs)) (each_faults (map (node_faults known final) xs) env 2) (e ∙ (λ i. least_from held (use_faults known final (p i) (map argument_of (q i)))))
+    (f ∙ (λ i. least_from a (each_faults (map (node_faults known final) (q i)) env 2))) ∙ ap (λ r. least_from held (item_faults known final r env)) (sym is)
+
+-- a conclusion that hasn't two contexts
+pub unframed : (s : RawSchema) (contexts : List RawName) (held a : Option TextErr) → contexts ≡ contexts_of s → (length contexts ≡ 2 → ⊥) → a ≡ least_from held (fault_at_any (λ (c : RawName). c.at) why.TooManyContexts (slice_get contexts 2)) → a ≡ least_from held (frame_faults s)
+unframed s contexts held a all other e =
+    let third = fault_at_any (λ (c : RawName). c.at) why.TooManyContexts (slice_get (contexts_of s) 2) in
+    let test : nat_eq (length contexts) 2 ≡ false = not_eq (length contexts) 2 other in
+    let test' : nat_eq (length (contexts_of s)) 2 ≡ false = ap (λ cs. nat_eq (length cs) 2) (sym all) ∙ test in
+    e ∙ ap (λ cs. least_from held (fault_at_any (λ (c : RawName). c.at) why.TooManyContexts (slice_get cs 2))) all
+    ∙ ap (least_from held) (sym (append-nil third) ∙ ap (λ b. third ++ (if b then misplaced_faults 0 s.items else [])) (sym test'))
+
+-- the parts of a use
+pub use_parts : (known : List Sym) (ds : List RawName) (args : List Argument) (held a b c : Option TextErr) → a ≡ least_from held (too_many (λ (n : RawName). n.at) 8 ds ++ too_many (λ (x : Argument). x.at) 8 args) → b ≡ least_from a (dangling_faults known ds)
+    → c ≡ least_from b (second_faults (λ (n : RawName). n) why.TwiceContext ds) → c ≡ least_from held (use_faults known false ds args)
+use_parts known ds args held a b c e f g =
+    let counts = too_many (λ (n : RawName). n.at) 8 ds ++ too_many (λ (x : Argument). x.at) 8 args in
+    two_parts held a c counts (list_faults known ds) e (two_parts a b c (dangling_faults known ds) (second_faults (λ (n : RawName). n) why.TwiceContext ds) f g)
+    ∙ ap (least_from held) (sym (append-nil (counts ++ list_faults known ds)))
+
+pub last_parts : (known : List Sym) (ds : List RawName) (args : List Argument) (held c d : Option TextErr) → c ≡ least_from held (use_faults known false ds args) → d ≡ least_from c (argument_faults args) → d ≡ least_from held (use_faults known true ds args)
+last_parts known ds args held c d e f =
+    let first = too_many (λ (n : RawName). n.at) 8 ds ++ too_many (λ (x : Argument). x.at) 8 args ++ list_faults known ds in
+    two_parts held c d first (argument_faults args) (e ∙ ap (least_from held) (append-nil first)) f
+
+-- the parts of a premise
+pub premise_parts : (s : RawSchema) (concl : List Sym) (known contexts : List RawName) (held a b : Option TextErr) → contexts ≡ contexts_of s → known ≡ contexts → a ≡ least_from held (dangling_faults concl known) → b ≡ least_from a (schema_faults false s)
+    → b ≡ least_from held (premise_faults concl s)
+premise_parts s concl known contexts held a b all k e f = two_parts held a b (dangling_faults concl (contexts_of s)) (schema_faults false s) (e ∙ ap (λ ns. least_from held (dangling_faults concl ns)) (k ∙ all)) f
+
+-- ## Behind a fault that is held
+
+later_none : (a b r q : ℕ) → nat_lt b a ≡ true → (nat_lt a b || (nat_eq a b && nat_lt r q)) ≡ false
+later_none a b r q h = grind (arith, nat_tests, h)
+
+held_stays : (held : Option TextErr) (at : ℕ) (w : TextWhy) (t : Bool) → is_behind held at ≡ true → least_from held (fault_if t at w) ≡ held
+held_stays None at w t h = absurd (true≢false (sym h))
+held_stays (Some f) at w false h = refl
+held_stays (Some f) at w true h = ap (λ b. if b then Some (record { at = at; why = w }) else Some f) (later_none at f.at (rank_of w) (rank_of f.why) h)
+
+-- a test that isn't made behind the fault that is held
+guarded : (held : Option TextErr) (at : ℕ) (w : TextWhy) (t : Bool) → least_from held (fault_if (not (is_behind held at) && t) at w) ≡ least_from held (fault_if t at w)
+guarded held at w t = by (is_behind held at) refl
+  where
+    by : (b : Bool) → is_behind held at ≡ b → least_from held (fault_if (not (is_behind held at) && t) at w) ≡ least_from held (fault_if t at w)
+    by false e = ap (λ b. least_from held (fault_if (not b && t) at w)) e
+    by true e = ap (λ b. least_from held (fault_if (not b && t) at w)) e ∙ sym (held_stays held at w t e)
+
+pub dangling_next : (known names : List RawName) (i : ℕ) (x : RawName) (held next whole : Option TextErr) (unknown : Bool) → i < length names → x ≡ get_or names i x → unknown ≡ (not (is_behind held x.at) && not (is_among (syms_of known) x.name))
+    → next ≡ least_from held (fault_if unknown x.at why.DanglingContext) → least_from held (dangling_faults (syms_of known) (drop i names)) ≡ whole → least_from next (dangling_faults (syms_of known) (drop (i + 1) names)) ≡ whole
+dangling_next known names i x held next whole unknown lt is e f prev =
+    let here : next ≡ least_from held (fault_if (not (has (syms_of known) x.name)) x.at why.DanglingContext) =
+    f ∙ ap (λ b. least_from held (fault_if b x.at why.DanglingContext)) e ∙ guarded held x.at why.DanglingContext (not (is_among (syms_of known) x.name)) ∙ ap (λ b. least_from held (fault_if (not b) x.at why.DanglingContext)) (among_has (syms_of known) x.name) in
+    flat_next (λ (c : RawName). fault_if (not (has (syms_of known) c.name)) c.at why.DanglingContext) names i x held next whole lt is here prev
+
+pub apart_next : (w : TextWhy) (names earlier : List RawName) (i : ℕ) (x : RawName) (held next whole : Option TextErr) (second : Bool) → i < length names → x ≡ get_or names i x → earlier ≡ take i names
+    → second ≡ (not (is_behind held x.at) && is_among (syms_of earlier) x.name) → next ≡ least_from held (fault_if second x.at w)
+    → least_from held (second_after (λ n. n) w (syms_of (take i names)) (drop i names)) ≡ whole → least_from next (second_after (λ n. n) w (syms_of (take (i + 1) names)) (drop (i + 1) names)) ≡ whole
+apart_next w names earlier i x held next whole second lt is early e f prev =
+    let here = fault_if (is_among (syms_of (take i names)) x.name) x.at w in
+    let rest = second_after (λ (n : RawName). n) w (syms_of (take i names) ++ x.name ∷ []) (drop (i + 1) names) in
+    let found : next ≡ least_from held here =
+    f ∙ ap (λ b. least_from held (fault_if b x.at w)) e ∙ guarded held x.at w (is_among (syms_of earlier) x.name) ∙ ap (λ ns. least_from held (fault_if (is_among (syms_of ns) x.name) x.at w)) early in
+    ap (λ ns. least_from next (second_after (λ (n : RawName). n) w ns (drop (i + 1) names))) (names_next (λ (n : RawName). n.name) names i x lt is)
+    ∙ two_parts held next (least_from next rest) here rest found refl
+    ∙ ap (λ ys. least_from held (second_after (λ (n : RawName). n) w (syms_of (take i names)) ys)) (sym (left_cons names i x lt is)) ∙ prev
+
+-- one more of a list, each of which has the faults of what it gives
+pub mapped_next : {X Y : Type 0} (f : Y → List TextErr) (g : X → Y) (xs : List X) (i : ℕ) (x : X) (held next whole : Option TextErr) → i < length xs → x ≡ get_or xs i x → next ≡ least_from held (f (g x))
+    → least_from held (flat_map f (map g (drop i xs))) ≡ whole → least_from next (flat_map f (map g (drop (i + 1) xs))) ≡ whole
+mapped_next f g xs i x held next whole lt is found prev =
+    let rest = flat_map f (map g (drop (i + 1) xs)) in
+    two_parts held next (least_from next rest) (f (g x)) rest found refl ∙ ap (λ ys. least_from held (flat_map f (map g ys))) (sym (left_cons xs i x lt is)) ∙ prev
+
+-- ## Holes
+
+not_not : (b : Bool) → not (not b) ≡ b
+not_not true = refl
+not_not false = refl
+
+-- one hole more, if these names were met
+pub hole_next : (met : List ℕ) (known : List Sym) (holes : List RawName) (i : ℕ) (x : RawName) (place : Option ℕ) (unknown : Bool) (held next whole : Option TextErr) → Met met known → i < length holes → x ≡ get_or holes i x → place ≡ place_of met x.name.0
+    → is_some place ≡ not unknown → next ≡ least_from held (fault_if unknown x.at why.UnboundParam) → least_from held (hole_faults known (drop i holes)) ≡ whole → least_from next (hole_faults known (drop (i + 1) holes)) ≡ whole
+hole_next met known holes i x place unknown held next whole all lt at is e f prev =
+    let same : is_some place ≡ has known x.name = ap (λ o. is_some o) is ∙ placed_met met x.name.0 ∙ all x.name ∙ among_has known x.name in
+    flat_next (λ (h : RawName). fault_if (not (has known h.name)) h.at why.UnboundParam) holes i x held next whole lt at (f ∙ ap (λ b. least_from held (fault_if b x.at why.UnboundParam)) (sym (not_not unknown) ∙ ap not (sym e ∙ same))) prev
+
+-- ## Theories
+
+pub theory_parts : (t : Laws) (rs us : List RawRule) (a b c : Option TextErr) → us ≡ rs → a ≡ least_from None (flat_map (λ (r : RawRule). fault_if (name_taken t r.name.name) r.name.at why.Taken) us)
+    → b ≡ least_from a (second_faults (λ (r : RawRule). r.name) why.Taken us) → c ≡ least_from b (flat_map rule_faults us) → c ≡ least (theory_faults t rs)
+theory_parts t rs us a b c same e f g =
+    three_parts None a b c (flat_map (λ (r : RawRule). fault_if (name_taken t r.name.name) r.name.at why.Taken) us) (second_faults (λ (r : RawRule). r.name) why.Taken us) (flat_map rule_faults us) e f g ∙ ap (λ xs. least (theory_faults t xs)) same

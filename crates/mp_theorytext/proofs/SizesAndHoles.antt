@@ -3,8 +3,7 @@ use Rattle.std.proofs.Common.{◌≡◌, ℕ, ◌+◌, ◌++◌, List, [], ◌�
 use Rattle.std.proofs.lemmas.Grind.{common_steps}
 use Rattle.std.specs.List.{flat_map}
 use Rattle.mp_logic.specs.declared.sym.Sym.{Sym}
-use Rattle.mp_schema.specs.declared.pattern.ParamPat.{ParamPat}
-use Rattle.mp_schema.specs.declared.pattern.ParamPat.TheVariants.{Lit, Hole}
+use Rattle.mp_schematext.specs.declared.raw.RawParamPat.TheVariants.{Lit, Hole}
 use Rattle.mp_schema.specs.Limits.{pattern_size_of, pattern_size_of_bound, item_size_of, schema_size_of}
 use Rattle.mp_schema.specs.Occurrences.{hole_in_param, holes_in, holes_in_bound, holes_in_item, holes_in_schema}
 use Rattle.mp_schema.proofs.Layers.{pattern_size_of-Var, pattern_size_of-Op, pattern_size_of-Meta, pattern_size_of_bound-is, holes_in-Var, holes_in-Op, holes_in-Meta, holes_in_bound-is}
@@ -17,12 +16,12 @@ use Rattle.mp_schematext.specs.declared.raw.RawItem.{RawItem}
 use Rattle.mp_schematext.specs.declared.raw.RawItem.TheVariants as item
 use Rattle.mp_schematext.specs.declared.raw.RawSchema.{RawSchema}
 use Rattle.mp_theorytext.specs.Scopes.{syms_of, env_past, env_behind}
-use Rattle.mp_theorytext.specs.Values.{each_pattern_value, pattern_of, bound_of, item_of, items_of, schema_of}
-use Rattle.mp_theorytext.specs.Uses.{hole_at, holes_in_param, raw_holes, raw_bound_holes, raw_item_holes, raw_schema_holes}
+use Rattle.mp_theorytext.specs.Values.{each_pattern_value, param_value, pattern_of, bound_of, item_of, items_of, schema_of}
+use Rattle.mp_theorytext.specs.Uses.{holes_in_param, raw_holes, raw_bound_holes, raw_item_holes, raw_schema_holes}
 use Rattle.mp_theorytext.specs.Statics.{raw_pattern_size_of, raw_bound_size_of, raw_item_size_of, raw_schema_size_of}
 use Rattle.mp_schematext.proofs.RawInduction.{OfEachBody, OfEachArg, each_raw}
 use Rattle.mp_theorytext.proofs.RawLayers.{pattern_of-Var, pattern_of-Op, pattern_of-Meta, bound_of-is, raw_size_of-Var, raw_size_of-Op, raw_size_of-Meta, raw_bound_size_of-is}
-use Rattle.mp_theorytext.proofs.HoleSteps.{raw_holes-Var, raw_holes-Op, raw_holes-Meta, raw_bound_holes-is}
+use Rattle.mp_theorytext.proofs.RawLayers.{raw_holes-Var, raw_holes-Op, raw_holes-Meta, raw_bound_holes-is}
 
 -- ## Sizes
 
@@ -77,13 +76,13 @@ names_in-append (x ∷ xs) ys = ap (λ ns. x.name ∷ ns) (names_in-append xs ys
 abbrev SameHoles : RawPattern → Type 0
 SameHoles p = (env : List Sym) → holes_in (pattern_of p env) ≡ syms_of (raw_holes p)
 
-hole_names : (l : ℕ) (p : ParamPat) → hole_in_param p ≡ syms_of (hole_at l p)
-hole_names l (Lit p) = refl
-hole_names l (Hole n) = refl
+hole_names : (p : RawParamPat) → hole_in_param (param_value p) ≡ syms_of (holes_in_param p)
+hole_names (Lit p) = refl
+hole_names (Hole n at) = refl
 
-param_holes : (ps : List RawParamPat) → flat_map hole_in_param (map (λ p. p.value) ps) ≡ syms_of (flat_map holes_in_param ps)
+param_holes : (ps : List RawParamPat) → flat_map hole_in_param (map param_value ps) ≡ syms_of (flat_map holes_in_param ps)
 param_holes [] = refl
-param_holes (p ∷ ps) = (λ i. hole_names p.left p.value i ++ param_holes ps i) ∙ sym (names_in-append (holes_in_param p) (flat_map holes_in_param ps))
+param_holes (p ∷ ps) = (λ i. hole_names p i ++ param_holes ps i) ∙ sym (names_in-append (holes_in_param p) (flat_map holes_in_param ps))
 
 body_holes : (ks : List RawPatternBound) → OfEachBody SameHoles ks → (env : List Sym) → flat_map holes_in_bound (each_pattern_value (map bound_of ks) env) ≡ syms_of (flat_map raw_bound_holes ks)
 body_holes [] h env = refl

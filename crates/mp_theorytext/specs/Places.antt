@@ -1,17 +1,21 @@
--- The use that a place in what is written is.
-use Rattle.std.specs.Prelude.{List, map, Bool}
+-- The uses that places in what is written are, and the first ones that are held of each name.
+use Rattle.std.specs.Prelude.{◌≡◌, List, length, nat_eq, Option}
+use Rattle.std.specs.HashMap.{get}
+use Rattle.std.specs.Option.{option_map, option_or}
 use Rattle.mp_logic.specs.declared.sym.Sym.{Sym}
+use Rattle.mp_theorytext.specs.declared.uses.FirstUses.{FirstUses}
 use Rattle.mp_theorytext.specs.declared.uses.Place.{Place}
-use Rattle.mp_theorytext.specs.Uses.{Use, argument_of}
+use Rattle.mp_theorytext.specs.Scopes.{syms_of}
+use Rattle.mp_theorytext.specs.Uses.{Use, first_use}
 
--- after these contexts, in the conclusion or not
-abbrev pub use_at : Place → List Sym → Bool → Use
-use_at p known final = record {
-  is_context = p.is_context;
-  name = p.name;
-  left = p.left;
-  ctxs = p.ctxs.now;
-  args = map argument_of p.args.now;
-  known = known;
-  in_conclusion = final;
-}
+-- what stands at the place
+abbrev pub use_at : Place → Use
+use_at p = record { is_context = p.is_context; name = p.name; at = p.at; ctxs = syms_of p.ctxs.now; arity = length p.args.now }
+
+-- the use that is held of this name
+abbrev pub first_held : FirstUses → Sym → Option Use
+first_held firsts name = option_map use_at (get nat_eq firsts.places name.0)
+
+-- of each name the new table has the use that the old one holds, or else the first one among these
+abbrev pub Enters : FirstUses → List Use → FirstUses → Type 0
+Enters old us new = (name : Sym) → first_held new name ≡ option_or (first_held old name) (first_use us name)

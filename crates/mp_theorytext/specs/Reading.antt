@@ -1,16 +1,20 @@
 -- What the reader of theories answers of a text.
 use Rattle.std.specs.Prelude.{ℕ, List, Result}
-use Rattle.mp_theory.specs.declared.rule.Rule.{Rule}
+use Rattle.mp_theory.specs.Tables.{Laws}
 use Rattle.mp_words.specs.declared.fail.TextFail.{TextFail}
-use Rattle.mp_words.specs.Texts.{OneText, ReadsText}
-use Rattle.mp_schematext.specs.Grammar.{IsTheory, StuckTheory}
+use Rattle.mp_words.specs.Texts.{OneText, ReadsText, SomeText, one_pass}
+use Rattle.mp_schematext.specs.Grammar.{theory}
 use Rattle.mp_theorytext.specs.Statics.{theory_faults}
-use Rattle.mp_theorytext.specs.Values.{rules_of}
+use Rattle.mp_theorytext.specs.Values.{with_rules}
 
--- the theory of a text, or its one fault, or want of memory, with the names after the reading
-abbrev pub ReadsTheory : List (List ℕ) → List ℕ → Result (List Rule) TextFail → List (List ℕ) → Type 0
-ReadsTheory = ReadsText IsTheory StuckTheory theory_faults rules_of
+-- this theory with the rules of a text, or the text's one fault, or want of memory, with the names after the reading
+abbrev pub ReadsTheory : Laws → List (List ℕ) → List ℕ → Result Laws TextFail → List (List ℕ) → Type 0
+ReadsTheory t = ReadsText theory (one_pass (theory_faults t)) (with_rules t)
 
 -- a text has one theory or one fault, and not both
 abbrev pub OneTheoryText : Type 0
-OneTheoryText = OneText IsTheory StuckTheory theory_faults rules_of
+OneTheoryText = (t : Laws) → OneText theory (one_pass (theory_faults t)) (with_rules t)
+
+-- a text has a theory or a fault
+abbrev pub SomeTheoryText : Type 0
+SomeTheoryText = (t : Laws) → SomeText theory (one_pass (theory_faults t)) (with_rules t)

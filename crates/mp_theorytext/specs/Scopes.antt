@@ -1,10 +1,12 @@
 -- What stands before a part of a schema as it is written: the names that are bound, and the contexts.
 use Rattle.std.specs.Prelude.{ℕ, ◌++◌, List, [], ◌∷◌, map, Option, None}
+use Rattle.std.specs.List.{flat_map}
 use Rattle.mp_logic.specs.declared.sym.Sym.{Sym}
 use Rattle.mp_termtext.specs.Statics.{level_of}
 use Rattle.mp_words.specs.declared.raw.RawName.{RawName}
 use Rattle.mp_schematext.specs.declared.raw.RawItem.{RawItem}
 use Rattle.mp_schematext.specs.declared.raw.RawItem.TheVariants as item
+use Rattle.mp_schematext.specs.declared.raw.RawSchema.{RawSchema}
 
 -- the level that a variable means where these names are bound: the place of the last one that is its name
 abbrev pub level_in : List Sym → Sym → Option ℕ
@@ -16,20 +18,23 @@ syms_of ns = map (λ n. n.name) ns
 
 -- the bound names after an item
 abbrev pub env_past : RawItem → List Sym → List Sym
-env_past (item.Ctx name ctxs args left) env = env
-env_past (item.Hyp name pattern left) env = env ++ name ∷ []
+env_past (item.Ctx name ctxs args at) env = env
+env_past (item.Hyp name pattern at) env = env ++ name ∷ []
 
 -- the bound names after all items
 abbrev pub env_behind : List RawItem → List Sym → List Sym
 env_behind [] env = env
 env_behind (i ∷ is) env = env_behind is (env_past i env)
 
+-- the context that an item is, if it is one
+abbrev pub context_in : RawItem → List RawName
+context_in (item.Ctx name ctxs args at) = name ∷ []
+context_in (item.Hyp name pattern at) = []
+
+-- the contexts among the items of a schema
+abbrev pub contexts_of : RawSchema → List RawName
+contexts_of s = flat_map context_in s.items
+
 -- the contexts after an item
 abbrev pub contexts_past : RawItem → List Sym → List Sym
-contexts_past (item.Ctx name ctxs args left) known = known ++ name.name ∷ []
-contexts_past (item.Hyp name pattern left) known = known
-
--- the contexts after all items
-abbrev pub contexts_behind : List RawItem → List Sym → List Sym
-contexts_behind [] known = known
-contexts_behind (i ∷ is) known = contexts_behind is (contexts_past i known)
+contexts_past i known = known ++ syms_of (context_in i)

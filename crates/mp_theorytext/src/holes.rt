@@ -1,3 +1,5 @@
+#![tactic(auto, using(crate::proofs::Gathering::gathering_holes))]
+
 ghost use Rattle.std.specs.Prelude.{◌≡◌, ◌++◌, IfOk, OnOk, map};
 ghost use Rattle.std.specs.List.{flat_map};
 ghost use Rattle.mp_names.specs.Sets.{Met};
@@ -7,9 +9,8 @@ ghost use Rattle.mp_theorytext.specs.Uses.{hole_faults, holes_in_param, raw_hole
 
 use mp_logic::{List, NoMemory};
 use mp_names::NameSet;
-use mp_schema::ParamPat;
 use mp_schematext::{RawItem, RawParamPat, RawPattern, RawPatternBound, RawSchema};
-use mp_words::{Fault, RawName, TextWhy, sooner_of};
+use mp_words::{RawName, TextErr, TextWhy, sooner_if};
 use std::alloc::Global;
 
 /// Appends the holes of schemata, in the order of the text.
@@ -83,11 +84,10 @@ fn gather_params(params: &[RawParamPat], holes: &mut List<RawName>) -> Result<()
     ensures { OnOk result (holes.new ≡ holes.old ++ flat_map holes_in_param params.now) }
 {
     for param in params {
-        if let ParamPat::Hole(name) = param.value {
-            let left = param.left.saturating_sub(1);
-            if let Err((_, refused)) = holes.push(RawName { name, left }) {
-                return Err(refused);
-            }
+        if let RawParamPat::Hole { name, .. } = param
+            && let Err((_, refused)) = holes.push(*name)
+        {
+            return Err(refused);
         }
     }
     Ok(())
@@ -107,18 +107,17 @@ fn names_of(alloc: Global, holes: &[RawName]) -> Result<NameSet, NoMemory>
 /// The soonest of the fault that is held and those of holes that aren't among the known ones.
 pub(crate) fn check_holes(
     alloc: Global,
-    held: Option<Fault>,
+    held: Option<TextErr>,
     known: &[RawName],
     holes: &[RawName],
-) -> Result<Option<Fault>, NoMemory>
+) -> Result<Option<TextErr>, NoMemory>
     ensures { IfOk result (λ found. found ≡ least_from held (hole_faults (syms_of known.now) holes.now)) }
 {
     let names = names_of(alloc, known)?;
     let mut held = held;
     for hole in holes {
-        if names.place(hole.name).is_none() {
-            held = sooner_of(held, hole.left, TextWhy::UnboundParam);
-        }
+        let unknown = names.place(hole.name).is_none();
+        held = sooner_if(held, unknown, hole.at, TextWhy::UnboundParam);
     }
     Ok(held)
 }

@@ -1,14 +1,24 @@
-ghost use Rattle.std.specs.Prelude.{ℕ, List, Ok};
-ghost use Rattle.mp_theory.specs.declared.rule.Rule.{Rule};
-ghost use Rattle.mp_theory.specs.Tables.{AreRules};
-ghost use Rattle.mp_theorytext.specs.Reading.{OneTheoryText, ReadsTheory};
+ghost use Rattle.mp_theorytext.specs.Laws.{OneSetOfRules, ReadTheoriesAreTheories};
+ghost use Rattle.mp_theorytext.specs.Reading.{OneTheoryText, SomeTheoryText};
 
 /// A text has one theory or one fault, and not both.
 pub fn one_text()
     ensures { OneTheoryText }
 {}
 
-/// The rules of a theory that is read are rules: each is faultless, and needs what its premises need.
-pub fn read_rules_are_rules()
-    ensures { (names later : List (List ℕ)) (source : List ℕ) (rules : List Rule) → ReadsTheory names source (Ok rules) later → AreRules rules }
+/// A text has a theory or a fault.
+pub fn some_text()
+    ensures { SomeTheoryText }
+{}
+
+/// What is read onto a theory is a theory: each of its rules is faultless and needs what its premises need, and no two
+/// have one name.
+pub fn read_theories_are_theories()
+    ensures { ReadTheoriesAreTheories }
+{}
+
+/// The static rules on a rule as it is written are those on the rule that it stands for: where each variable is bound,
+/// the one has no fault exactly where the other has none.
+pub fn one_set_of_rules()
+    ensures { OneSetOfRules }
 {}

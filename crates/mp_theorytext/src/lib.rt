@@ -12,5 +12,5 @@ mod statics;
 mod uses;
 mod value;
 
-pub use laws::{one_text, read_rules_are_rules};
+pub use laws::{one_set_of_rules, one_text, read_theories_are_theories, some_text};
 pub use reading::read_theory;

@@ -1,5 +1,6 @@
 ghost use Rattle.std.specs.Prelude.{◌<◌, ◌≤◌, ◌+◌, ◌-◌, ◌^◌, length};
 ghost use Rattle.mp_names.specs.Table.{Extends};
+ghost use Rattle.mp_theory.specs.Tables.{law_count};
 ghost use Rattle.mp_theorytext.specs.Reading.{ReadsTheory};
 
 use crate::making::build_theory;
@@ -7,28 +8,34 @@ use crate::statics::theory_fault;
 use mp_names::Names;
 use mp_schematext::parse_theory;
 use mp_theory::Theory;
-use mp_words::{TextFail, lex_text};
+use mp_words::{TextFail, lex_text, stopped};
 use std::alloc::Global;
 
-/// Reads a theory that is all of the text: its rules, in the order of the text. Bad has the one fault of the text:
-/// the first lexical one; else Syntax, at the token at which the grammar is stuck, or at the text's length where it
-/// ends too early; else the least static one, which is Taken, TooMany, TooDeep, TooBig, UnboundVar,
-/// DanglingContext, TwiceContext, TooManyContexts, MisplacedHyp, NotAPattern, BadUse or UnboundParam. Earlier names
-/// keep their numbers, and at most as many are added as the text has bytes, also where the text is refused.
-pub fn read_theory(alloc: Global, names: &mut Names, source: &[u8]) -> Result<Theory, TextFail>
+/// Reads rules that are all of the text, and adds them to the theory, in the order of the text. Bad has the one fault of
+/// the text: the first lexical one; else Syntax, at the token at which the grammar is stuck, or at the text's length where
+/// it ends too early; else the least static one, which is Taken, TooMany, TooDeep, TooBig, UnboundVar, DanglingContext,
+/// TwiceContext, TooManyContexts, MisplacedHyp, NotAPattern, BadUse or UnboundParam. Earlier names keep their numbers, and
+/// at most as many are added as the text has bytes, also where the text is refused.
+pub fn read_theory(
+    alloc: Global,
+    names: &mut Names,
+    theory: Theory,
+    source: &[u8],
+) -> Result<Theory, TextFail>
     requires room { length names.old + length source.now < 2 ^ 32 - 1 }
-    ensures reads { ReadsTheory names.old source.now result names.new }
+    requires laws { law_count theory + length source.now < 2 ^ 32 - 1 }
+    ensures reads { ReadsTheory theory names.old source.now result names.new }
     ensures grown { Extends names.old names.new }
     ensures few { length names.new ≤ length names.old + length source.now }
 {
-    let text = lex_text(alloc, names, source)?;
-    let raws = match parse_theory(alloc, text.words.as_slice()) {
+    let words = lex_text(alloc, names, source)?;
+    let raws = match parse_theory(alloc, words.as_slice()) {
         Ok(raws) => raws,
-        Err(fail) => return Err(text.stopped(source, fail)),
+        Err(fail) => return Err(stopped(source, fail)),
     };
-    if let Some(fault) = theory_fault(alloc, &raws)? {
-        return Err(text.broken(source, fault));
+    if let Some(fault) = theory_fault(alloc, &theory, &raws)? {
+        return Err(TextFail::Bad(fault));
     }
-    let theory = build_theory(alloc, &raws)?;
+    let theory = build_theory(alloc, theory, &raws)?;
     Ok(theory)
 }

@@ -1,47 +1,52 @@
-ghost use Rattle.std.specs.Prelude.{◌≡◌, ◌++◌, [], ℕ, IfOk, OnOk, length, nat_lt, if◌then◌else◌};
+ghost use Rattle.std.specs.Prelude.{◌≡◌, ◌++◌, [], ℕ, IfOk, OnOk, length, nat_eq, nat_lt, slice_get, if◌then◌else◌};
 ghost use Rattle.std.specs.List.{flat_map};
 ghost use Rattle.mp_logic.specs.Trees.{counted};
+ghost use Rattle.mp_theory.specs.Tables.{name_taken};
 ghost use Rattle.mp_words.specs.declared.fail.TextWhy.TheVariants as why;
-ghost use Rattle.mp_words.specs.Faults.{fault_if, least, least_from, too_many};
-ghost use Rattle.mp_names.specs.Sets.{is_met, with_met};
-ghost use Rattle.mp_theorytext.specs.Scopes.{contexts_past, contexts_behind, env_past, env_behind, syms_of};
-ghost use Rattle.mp_theorytext.specs.Statics.{concl_item_faults, contexts_of, item_faults, item_left, item_node_faults, items_faults, premise_item_faults, premises_faults, rule_faults, rules_faults, schema_faults, theory_faults, twice_faults};
-ghost use Rattle.mp_theorytext.specs.Uses.{firsts_after, hole_faults, raw_schema_holes, uses_faults, uses_in_item, uses_in_items, uses_in_schema, uses_in_rule};
+ghost use Rattle.mp_words.specs.Faults.{fault_at_any, fault_if, least, least_from, too_many};
+ghost use Rattle.mp_theorytext.specs.Scopes.{context_in, contexts_of, contexts_past, env_behind, env_past, syms_of};
+ghost use Rattle.mp_theorytext.specs.Statics.{conclusion_faults, frame_faults, item_at, item_faults, items_faults, misplaced_faults, premise_faults, rule_faults, schema_faults, theory_faults};
+ghost use Rattle.mp_theorytext.specs.Uses.{hole_faults, raw_schema_holes};
 
 use crate::holes::{check_holes, gather_schema, gather_schemata};
-use crate::nodes::{check_argument_nodes, check_nodes};
-use crate::scope::has_name;
+use crate::nodes::{check_argument_nodes, check_nodes, check_use};
+use crate::scope::{check_apart, check_known};
 use crate::size::schema_size;
-use crate::uses::{Firsts, Place, check_argument_uses, check_use, check_uses};
+use crate::uses::check_rule_uses;
 use mp_logic::{List, NoMemory, Sym};
-use mp_names::NameSet;
+use mp_schema::limits::{MOST_ITEMS, MOST_PREMISES};
 use mp_schematext::{RawItem, RawRule, RawSchema};
-use mp_words::{Fault, RawName, TextWhy, behind, sooner_of};
+use mp_term::limits::MOST_NODES;
+use mp_theory::Theory;
+use mp_words::{RawName, TextErr, TextWhy, check_second, sooner_if, sooner_of};
 use std::alloc::Global;
 
-/// The most premises of a rule.
-const MOST_PREMISES: u64 = 16;
-
-/// The most items of a schema.
-const MOST_ITEMS: usize = 200;
-
-/// The most variables, operators and second-order variables of a schema.
-const MOST_NODES: u64 = 20000;
-
 /// Appends the context, if the item is one.
-fn push_context(known: &mut Vec<Sym>, item: &RawItem) -> Result<(), NoMemory>
-    ensures { OnOk result (known.new.items ≡ contexts_past item.now known.old.items) }
+fn push_context(known: &mut Vec<RawName>, item: &RawItem) -> Result<(), NoMemory>
+    ensures { OnOk result (known.new.items ≡ known.old.items ++ context_in item.now) }
 {
     if let RawItem::Ctx { name, .. } = item
-        && known.push(name.name).is_err()
+        && known.push(*name).is_err()
     {
         return Err(NoMemory);
     }
     Ok(())
 }
 
-/// The contexts of a schema, in order.
-fn contexts(alloc: Global, raw: &RawSchema) -> Result<Vec<Sym>, NoMemory>
+/// Appends the name of the hypothesis, if the item is one.
+fn push_name(env: &mut Vec<Sym>, item: &RawItem) -> Result<(), NoMemory>
+    ensures { OnOk result (env.new.items ≡ env_past item.now env.old.items) }
+{
+    if let RawItem::Hyp { name, .. } = item
+        && env.push(*name).is_err()
+    {
+        return Err(NoMemory);
+    }
+    Ok(())
+}
+
+/// The contexts among the items of a schema, in order.
+fn contexts(alloc: Global, raw: &RawSchema) -> Result<Vec<RawName>, NoMemory>
     ensures { IfOk result (λ names. names.items ≡ contexts_of raw.now) }
 {
     let mut known = Vec::new(alloc);
@@ -51,294 +56,181 @@ fn contexts(alloc: Global, raw: &RawSchema) -> Result<Vec<Sym>, NoMemory>
     Ok(known)
 }
 
-// Behind a fault that is held no name is looked for.
-fn check_twice(held: Option<Fault>, known: &[Sym], item: &RawItem) -> Option<Fault>
-    ensures { result ≡ least_from held (twice_faults known.now item.now) }
-{
-    match item {
-        RawItem::Ctx { name, .. } => {
-            if behind(held, name.left) || !has_name(known, name.name) {
-                held
-            } else {
-                sooner_of(held, name.left, TextWhy::TwiceContext)
-            }
-        }
-        RawItem::Hyp { .. } => held,
-    }
-}
-
-// Behind a fault that is held no name is looked for.
-fn check_premise_item(held: Option<Fault>, concl: &[Sym], item: &RawItem) -> Option<Fault>
-    ensures { result ≡ least_from held (premise_item_faults concl.now item.now) }
-{
-    match item {
-        RawItem::Ctx { name, .. } => {
-            if behind(held, name.left) || has_name(concl, name.name) {
-                held
-            } else {
-                sooner_of(held, name.left, TextWhy::DanglingContext)
-            }
-        }
-        RawItem::Hyp { .. } => held,
-    }
-}
-
-fn check_concl_item(
-    held: Option<Fault>,
-    concl: &[Sym],
-    known: &[Sym],
-    item: &RawItem,
-) -> Option<Fault>
-    ensures { result ≡ least_from held (concl_item_faults concl.now known.now item.now) }
-{
-    match item {
-        RawItem::Ctx { name, .. } => {
-            if known.len() < 2 {
-                held
-            } else {
-                sooner_of(held, name.left, TextWhy::TooManyContexts)
-            }
-        }
-        RawItem::Hyp { left, .. } => {
-            if concl.len() == 2 && known.len() != 1 {
-                sooner_of(held, *left, TextWhy::MisplacedHyp)
-            } else {
-                held
-            }
-        }
-    }
-}
-
-fn check_order(
-    held: Option<Fault>,
-    in_conclusion: bool,
-    concl: &[Sym],
-    known: &[Sym],
-    item: &RawItem,
-) -> Option<Fault>
-    ensures { result ≡ least_from held (if in_conclusion then concl_item_faults concl.now known.now item.now else premise_item_faults concl.now item.now) }
-{
-    if in_conclusion {
-        check_concl_item(held, concl, known, item)
-    } else {
-        check_premise_item(held, concl, item)
-    }
-}
-
-/// The soonest of the fault that is held and those of the nodes of an item; the name of a hypothesis is bound
-/// behind it.
-fn check_item_nodes(
-    raw: &RawItem,
-    env: &mut Vec<Sym>,
-    held: Option<Fault>,
-) -> Result<Option<Fault>, NoMemory>
-    ensures fault { IfOk result (λ found. found ≡ least_from held (item_node_faults raw.now env.old.items)) }
-    ensures env { OnOk result (env.new.items ≡ env_past raw.now env.old.items) }
-{
-    match raw {
-        RawItem::Ctx { args, .. } => {
-            let found = check_argument_nodes(args.as_slice(), env, 2, held)?;
-            Ok(found)
-        }
-        RawItem::Hyp { name, pattern, .. } => {
-            let found = check_nodes(pattern, env, 1, held)?;
-            if env.push(*name).is_err() {
-                return Err(NoMemory);
-            }
-            Ok(found)
-        }
-    }
-}
-
-/// The soonest of the fault that is held and those of an item, behind the contexts `known`, in a rule whose
-/// conclusion has the contexts `concl`.
+/// The soonest of the fault that is held and those of the nodes of an item.
+#[tactic(auto, using(mp_words::proofs::Soonest::least_from_append))]
 fn check_item(
-    raw: &RawItem,
+    alloc: Global,
+    item: &RawItem,
+    known: &[RawName],
     in_conclusion: bool,
-    concl: &[Sym],
-    known: &mut Vec<Sym>,
     env: &mut Vec<Sym>,
-    held: Option<Fault>,
-) -> Result<Option<Fault>, NoMemory>
-    ensures fault { IfOk result (λ found. found ≡ least_from held (item_faults in_conclusion concl.now known.old.items env.old.items raw.now)) }
-    ensures env { OnOk result (env.new.items ≡ env_past raw.now env.old.items) }
-    ensures known { OnOk result (known.new.items ≡ contexts_past raw.now known.old.items) }
+    held: Option<TextErr>,
+) -> Result<Option<TextErr>, NoMemory>
+    ensures fault { IfOk result (λ found. found ≡ least_from held (item_faults (syms_of known.now) in_conclusion item.now env.old.items)) }
+    ensures env { OnOk result (env.new.items ≡ env.old.items) }
 {
-    let held = check_twice(held, known.as_slice(), raw);
-    let held = check_order(held, in_conclusion, concl, known.as_slice(), raw);
-    let found = check_item_nodes(raw, env, held)?;
-    push_context(known, raw)?;
-    Ok(found)
+    match item {
+        RawItem::Ctx { ctxs, args, .. } => {
+            let args = args.as_slice();
+            let held = check_use(alloc, known, in_conclusion, ctxs.as_slice(), args, held)?;
+            let found = check_argument_nodes(alloc, args, known, in_conclusion, env, 2, held)?;
+            Ok(found)
+        }
+        RawItem::Hyp { pattern, .. } => {
+            let found = check_nodes(alloc, pattern, known, in_conclusion, env, 1, held)?;
+            Ok(found)
+        }
+    }
 }
 
-/// The soonest of the fault that is held and those of items, each behind those before it.
+/// The soonest of the fault that is held and those of the nodes of items, each behind the contexts and the bound names
+/// before it. The names of all of them are bound behind them.
 fn check_items(
     alloc: Global,
     items: &[RawItem],
     in_conclusion: bool,
-    concl: &[Sym],
     env: &mut Vec<Sym>,
-    held: Option<Fault>,
-) -> Result<Option<Fault>, NoMemory>
-    ensures fault { IfOk result (λ found. found ≡ least_from held (items_faults in_conclusion concl.now [] env.old.items items.now)) }
+    held: Option<TextErr>,
+) -> Result<Option<TextErr>, NoMemory>
+    ensures fault { IfOk result (λ found. found ≡ least_from held (items_faults [] in_conclusion items.now env.old.items)) }
     ensures env { OnOk result (env.new.items ≡ env_behind items.now env.old.items) }
 {
     let mut known = Vec::new(alloc);
     let mut held = held;
     for item in items {
-        held = check_item(item, in_conclusion, concl, &mut known, env, held)?;
+        held = check_item(alloc, item, known.as_slice(), in_conclusion, env, held)?;
+        push_context(&mut known, item)?;
+        push_name(env, item)?;
     }
     Ok(held)
 }
 
-fn check_item_count(held: Option<Fault>, items: &[RawItem]) -> Option<Fault>
-    ensures { result ≡ least_from held (too_many item_left 200 items.now) }
+fn check_item_count(held: Option<TextErr>, items: &[RawItem]) -> Option<TextErr>
+    ensures { result ≡ least_from held (too_many item_at 200 items.now) }
 {
-    match items.get(MOST_ITEMS) {
-        Some(RawItem::Ctx { left, .. }) => sooner_of(held, *left, TextWhy::TooMany),
-        Some(RawItem::Hyp { left, .. }) => sooner_of(held, *left, TextWhy::TooMany),
+    match items.get(MOST_ITEMS as usize) {
+        Some(RawItem::Ctx { at, .. }) => sooner_of(held, *at, TextWhy::TooMany),
+        Some(RawItem::Hyp { at, .. }) => sooner_of(held, *at, TextWhy::TooMany),
         None => held,
     }
 }
 
 /// The sooner one of the fault that is held and TooBig, for a schema of so many nodes.
-fn check_size(held: Option<Fault>, size: u64, left: u64) -> Option<Fault>
-    ensures { (n : ℕ) → counted n ≡ size → result ≡ least_from held (fault_if (nat_lt 20000 n) left why.TooBig) }
+fn check_size(held: Option<TextErr>, size: u64, at: u32) -> Option<TextErr>
+    ensures { (n : ℕ) → counted n ≡ size → result ≡ least_from held (fault_if (nat_lt 20000 n) at why.TooBig) }
 {
     if size > MOST_NODES {
-        sooner_of(held, left, TextWhy::TooBig)
+        sooner_of(held, at, TextWhy::TooBig)
     } else {
         held
     }
 }
 
-/// The soonest of the fault that is held and those of a schema but for its uses and holes.
+/// The soonest of the fault that is held and those of a schema of a rule.
 fn check_schema(
     alloc: Global,
     raw: &RawSchema,
     in_conclusion: bool,
-    concl: &[Sym],
-    held: Option<Fault>,
-) -> Result<Option<Fault>, NoMemory>
-    ensures { IfOk result (λ found. found ≡ least_from held (schema_faults in_conclusion concl.now raw.now)) }
+    held: Option<TextErr>,
+) -> Result<Option<TextErr>, NoMemory>
+    ensures { IfOk result (λ found. found ≡ least_from held (schema_faults in_conclusion raw.now)) }
 {
     let items = raw.items.as_slice();
     let held = check_item_count(held, items);
+    let known = contexts(alloc, raw)?;
+    let held = check_apart(held, known.as_slice(), TextWhy::TwiceContext);
     let mut env = Vec::new(alloc);
-    let held = check_items(alloc, items, in_conclusion, concl, &mut env, held)?;
-    let held = check_nodes(&raw.concl, &mut env, 1, held)?;
-    Ok(check_size(held, schema_size(raw), raw.left))
+    let held = check_items(alloc, items, in_conclusion, &mut env, held)?;
+    let concl = &raw.concl;
+    let held = check_nodes(
+        alloc,
+        concl,
+        known.as_slice(),
+        in_conclusion,
+        &mut env,
+        1,
+        held,
+    )?;
+    Ok(check_size(held, schema_size(raw), raw.at))
+}
+
+/// The soonest of the fault that is held and those of a premise of a rule whose conclusion has these contexts.
+fn check_premise(
+    alloc: Global,
+    raw: &RawSchema,
+    concl: &[RawName],
+    held: Option<TextErr>,
+) -> Result<Option<TextErr>, NoMemory>
+    ensures { IfOk result (λ found. found ≡ least_from held (premise_faults (syms_of concl.now) raw.now)) }
+{
+    let known = contexts(alloc, raw)?;
+    let held = check_known(held, concl, known.as_slice());
+    let found = check_schema(alloc, raw, false, held)?;
+    Ok(found)
 }
 
 fn check_premises(
     alloc: Global,
     premises: &[RawSchema],
-    concl: &[Sym],
-    held: Option<Fault>,
-) -> Result<Option<Fault>, NoMemory>
-    ensures { IfOk result (λ found. found ≡ least_from held (premises_faults concl.now premises.now)) }
+    concl: &[RawName],
+    held: Option<TextErr>,
+) -> Result<Option<TextErr>, NoMemory>
+    ensures { IfOk result (λ found. found ≡ least_from held (flat_map (premise_faults (syms_of concl.now)) premises.now)) }
 {
     let mut held = held;
     for premise in premises {
-        held = check_schema(alloc, premise, false, concl, held)?;
+        held = check_premise(alloc, premise, concl, held)?;
     }
     Ok(held)
 }
 
-/// The soonest of the fault that is held and those of the uses in an item.
-fn check_item_uses(
-    alloc: Global,
-    raw: &RawItem,
-    known: &[Sym],
-    in_conclusion: bool,
-    firsts: &mut Firsts,
-    held: Option<Fault>,
-) -> Result<Option<Fault>, NoMemory>
-    ensures fault { IfOk result (λ found. found ≡ least_from held (uses_faults firsts.old (uses_in_item raw.now known.now in_conclusion))) }
-    ensures firsts { OnOk result (firsts.new ≡ firsts_after firsts.old (uses_in_item raw.now known.now in_conclusion)) }
+/// The soonest of the fault that is held and those of named hypotheses that don't stand behind exactly one context.
+fn check_between(held: Option<TextErr>, items: &[RawItem]) -> Option<TextErr>
+    ensures { result ≡ least_from held (misplaced_faults 0 items.now) }
 {
-    match raw {
-        RawItem::Ctx {
-            name,
-            ctxs,
-            args,
-            ..
-        } => {
-            let place = Place {
-                is_context: true,
-                name: name.name,
-                left: name.left,
-                ctxs: ctxs.as_slice(),
-                args: args.as_slice(),
-            };
-            let held = check_use(alloc, place, known, in_conclusion, firsts, held)?;
-            let found = check_argument_uses(
-                alloc,
-                args.as_slice(),
-                known,
-                in_conclusion,
-                firsts,
-                held,
-            )?;
-            Ok(found)
+    let mut held = held;
+    let mut before = 0u64;
+    for item in items {
+        match item {
+            RawItem::Ctx { .. } => before += 1,
+            RawItem::Hyp { at, .. } => {
+                held = sooner_if(held, before != 1, *at, TextWhy::MisplacedHyp);
+            }
         }
-        RawItem::Hyp { pattern, .. } => {
-            check_uses(alloc, pattern, known, in_conclusion, firsts, held)
-        }
+    }
+    held
+}
+
+fn check_third(held: Option<TextErr>, contexts: &[RawName]) -> Option<TextErr>
+    ensures { result ≡ least_from held (fault_at_any (λ c. c.at) why.TooManyContexts (slice_get contexts.now 2)) }
+{
+    match contexts.get(2) {
+        Some(third) => sooner_of(held, third.at, TextWhy::TooManyContexts),
+        None => held,
     }
 }
 
-/// The soonest of the fault that is held and those of the uses in a schema.
-fn check_schema_uses(
-    alloc: Global,
-    raw: &RawSchema,
-    in_conclusion: bool,
-    firsts: &mut Firsts,
-    held: Option<Fault>,
-) -> Result<Option<Fault>, NoMemory>
-    ensures fault { IfOk result (λ found. found ≡ least_from held (uses_faults firsts.old (uses_in_schema in_conclusion raw.now))) }
-    ensures firsts { OnOk result (firsts.new ≡ firsts_after firsts.old (uses_in_schema in_conclusion raw.now)) }
+/// The soonest of the fault that is held and those of a conclusion that has three contexts, or two with a named hypothesis
+/// that doesn't stand between them.
+#[tactic(auto, using(mp_words::proofs::Soonest::least_from_append))]
+fn check_frame(held: Option<TextErr>, raw: &RawSchema, contexts: &[RawName]) -> Option<TextErr>
+    requires { contexts.now ≡ contexts_of raw.now }
+    ensures { result ≡ least_from held (frame_faults raw.now) }
 {
-    let mut known = Vec::new(alloc);
-    let mut held = held;
-    for item in raw.items.as_slice() {
-        held = check_item_uses(alloc, item, known.as_slice(), in_conclusion, firsts, held)?;
-        push_context(&mut known, item)?;
+    let held = check_third(held, contexts);
+    if contexts.len() == 2 {
+        check_between(held, raw.items.as_slice())
+    } else {
+        held
     }
-    let found = check_uses(
-        alloc,
-        &raw.concl,
-        known.as_slice(),
-        in_conclusion,
-        firsts,
-        held,
-    )?;
-    Ok(found)
-}
-
-/// The soonest of the fault that is held and those of the uses in a rule.
-fn check_rule_uses(
-    alloc: Global,
-    raw: &RawRule,
-    held: Option<Fault>,
-) -> Result<Option<Fault>, NoMemory>
-    ensures { IfOk result (λ found. found ≡ least_from held (uses_faults [] (uses_in_rule raw.now))) }
-{
-    let mut firsts = Firsts::new(alloc);
-    let mut held = held;
-    for premise in raw.premises.as_slice() {
-        held = check_schema_uses(alloc, premise, false, &mut firsts, held)?;
-    }
-    let found = check_schema_uses(alloc, &raw.concl, true, &mut firsts, held)?;
-    Ok(found)
 }
 
 /// The soonest of the fault that is held and those of the holes in a rule.
 fn check_rule_holes(
     alloc: Global,
     raw: &RawRule,
-    held: Option<Fault>,
-) -> Result<Option<Fault>, NoMemory>
+    held: Option<TextErr>,
+) -> Result<Option<TextErr>, NoMemory>
     ensures { IfOk result (λ found. found ≡ least_from held (hole_faults (syms_of (raw_schema_holes raw.now.concl)) (flat_map raw_schema_holes raw.now.premises))) }
 {
     let mut known = List::new(alloc);
@@ -349,54 +241,71 @@ fn check_rule_holes(
     Ok(found)
 }
 
-fn check_premise_count(held: Option<Fault>, premises: &List<RawSchema>) -> Option<Fault>
-    ensures { result ≡ least_from held (too_many (λ s. s.left) 16 premises.now) }
+fn check_premise_count(held: Option<TextErr>, premises: &List<RawSchema>) -> Option<TextErr>
+    ensures { result ≡ least_from held (too_many (λ s. s.at) 16 premises.now) }
 {
     match premises.get(MOST_PREMISES) {
-        Some(premise) => sooner_of(held, premise.left, TextWhy::TooMany),
+        Some(premise) => sooner_of(held, premise.at, TextWhy::TooMany),
         None => held,
     }
 }
 
 /// The soonest of the fault that is held and those of a rule, but that its name is taken.
-fn check_rule(alloc: Global, raw: &RawRule, held: Option<Fault>) -> Result<Option<Fault>, NoMemory>
+fn check_rule(
+    alloc: Global,
+    raw: &RawRule,
+    held: Option<TextErr>,
+) -> Result<Option<TextErr>, NoMemory>
     ensures { IfOk result (λ found. found ≡ least_from held (rule_faults raw.now)) }
 {
     let concl = contexts(alloc, &raw.concl)?;
     let held = check_premise_count(held, &raw.premises);
     let held = check_premises(alloc, raw.premises.as_slice(), concl.as_slice(), held)?;
-    let held = check_schema(alloc, &raw.concl, true, concl.as_slice(), held)?;
+    let held = check_frame(held, &raw.concl, concl.as_slice());
+    let held = check_schema(alloc, &raw.concl, true, held)?;
     let held = check_rule_uses(alloc, raw, held)?;
     let found = check_rule_holes(alloc, raw, held)?;
     Ok(found)
 }
 
-// Meets the name of a rule, behind the names of the rules before.
-fn check_taken(
-    held: Option<Fault>,
-    met: &mut NameSet,
-    name: RawName,
-) -> Result<Option<Fault>, NoMemory>
-    ensures fault { IfOk result (λ found. found ≡ least_from held (fault_if (is_met met.old name.name.0) name.left why.Taken)) }
-    ensures met { OnOk result (met.new ≡ with_met met.old name.name.0) }
+/// The soonest of the fault that is held and those of names that a law of the theory has.
+fn check_free(held: Option<TextErr>, theory: &Theory, raws: &[RawRule]) -> Option<TextErr>
+    ensures { result ≡ least_from held (flat_map (λ r. fault_if (name_taken theory.now r.name.name) r.name.at why.Taken) raws.now) }
 {
-    let is_taken = met.meet(name.name)?;
-    if is_taken {
-        Ok(sooner_of(held, name.left, TextWhy::Taken))
-    } else {
-        Ok(held)
+    let mut held = held;
+    for raw in raws {
+        let taken = theory.is_taken(raw.name.name);
+        held = sooner_if(held, taken, raw.name.at, TextWhy::Taken);
     }
+    held
 }
 
-/// The least static fault of a theory as it is written. None exactly where it has none.
-pub(crate) fn theory_fault(alloc: Global, raws: &List<RawRule>) -> Result<Option<Fault>, NoMemory>
-    ensures { IfOk result (λ found. found ≡ least (theory_faults raws.now)) }
+fn check_rules(
+    alloc: Global,
+    raws: &[RawRule],
+    held: Option<TextErr>,
+) -> Result<Option<TextErr>, NoMemory>
+    ensures { IfOk result (λ found. found ≡ least_from held (flat_map rule_faults raws.now)) }
 {
-    let mut met = NameSet::new(alloc);
-    let mut held = None;
-    for raw in raws.as_slice() {
-        let found = check_taken(held, &mut met, raw.name)?;
-        held = check_rule(alloc, raw, found)?;
+    let mut held = held;
+    for raw in raws {
+        held = check_rule(alloc, raw, held)?;
     }
     Ok(held)
+}
+
+/// The least static fault of rules that are to be added to the theory. None exactly where there is none.
+#[tactic(auto, using(mp_words::proofs::Soonest::least_from_append))]
+pub(crate) fn theory_fault(
+    alloc: Global,
+    theory: &Theory,
+    raws: &List<RawRule>,
+) -> Result<Option<TextErr>, NoMemory>
+    ensures { IfOk result (λ found. found ≡ least (theory_faults theory.now raws.now)) }
+{
+    let raws = raws.as_slice();
+    let held = check_free(None, theory, raws);
+    let held = check_second(alloc, raws, TextWhy::Taken, held)?;
+    let found = check_rules(alloc, raws, held)?;
+    Ok(found)
 }

@@ -1,6 +1,7 @@
-ghost use Rattle.std.specs.Prelude.{◌≡◌, ◌++◌, ◌∷◌, [], IfOk, OnOk, map, min, unwrap_or};
+ghost use Rattle.std.specs.Prelude.{◌≡◌, ◌++◌, ◌∷◌, [], IfOk, OnOk, map, unwrap_or};
+ghost use Rattle.mp_theorytext.specs.Buildable.{AreFaultless, AreFaultlessBounds, AreFaultlessItems, AreFaultlessPremises, IsFaultless, IsFaultlessBound, IsFaultlessItem, IsFaultlessSchema};
 ghost use Rattle.mp_theorytext.specs.Scopes.{level_in, syms_of, env_past, env_behind};
-ghost use Rattle.mp_theorytext.specs.Values.{in_32_bits, each_pattern_value, pattern_of, bound_of, item_of, items_of, schema_of};
+ghost use Rattle.mp_theorytext.specs.Values.{each_pattern_value, param_value, pattern_of, bound_of, item_of, items_of, schema_of};
 
 use mp_logic::{List, NoMemory, Sym};
 use mp_schema::{Item, PBound, ParamPat, Pattern, Schema};
@@ -9,28 +10,28 @@ use mp_termtext::{level_of, push_names};
 use mp_words::RawName;
 use std::alloc::Global;
 
-// No number of a rule that keeps the static rules is greater.
-const GREATEST: u64 = 4294967295;
-
-fn level(env: &[Sym], name: Sym) -> u32
-    ensures { result ≡ in_32_bits (unwrap_or (level_in env.now name) 0) }
+fn value_of(param: RawParamPat) -> ParamPat
+    ensures { result ≡ param_value param }
 {
-    level_of(0, env, name, None).unwrap_or(0).min(GREATEST) as u32
+    match param {
+        RawParamPat::Lit(param) => ParamPat::Lit(param.value),
+        RawParamPat::Hole { name, .. } => ParamPat::Hole(name.name),
+    }
 }
 
 fn build_params(alloc: Global, params: &List<RawParamPat>) -> Result<List<ParamPat>, NoMemory>
-    ensures { IfOk result (λ values. values ≡ map (λ p. p.value) params.now) }
+    ensures { IfOk result (λ values. values ≡ map param_value params.now) }
 {
     let mut values = List::with_capacity(alloc, params.len())?;
     for param in params.as_slice() {
-        if let Err((_, refused)) = values.push(param.value) {
+        if let Err((_, refused)) = values.push(value_of(*param)) {
             return Err(refused);
         }
     }
     Ok(values)
 }
 
-pub(crate) fn copy_names(alloc: Global, names: &[RawName]) -> Result<List<Sym>, NoMemory>
+fn copy_names(alloc: Global, names: &[RawName]) -> Result<List<Sym>, NoMemory>
     ensures { IfOk result (λ copied. copied ≡ syms_of names.now) }
 {
     let mut copied = List::with_capacity(alloc, names.len() as u64)?;
@@ -42,14 +43,18 @@ pub(crate) fn copy_names(alloc: Global, names: &[RawName]) -> Result<List<Sym>, 
     Ok(copied)
 }
 
-/// The pattern that is written, where the names `env` are bound.
+/// The pattern that is written, where the names `env` are bound, and no static rule is broken.
 #[cycle(building)]
 fn build_pattern(alloc: Global, raw: &RawPattern, env: &mut Vec<Sym>) -> Result<Pattern, NoMemory>
+    requires faultless { IsFaultless raw.now env.old.items }
     ensures value { IfOk result (λ p. p ≡ pattern_of raw.now env.old.items) }
     ensures env { OnOk result (env.new.items ≡ env.old.items) }
 {
     match raw {
-        RawPattern::Var { name, .. } => Ok(Pattern::Var(level(env.as_slice(), *name))),
+        RawPattern::Var { name, .. } => {
+            let level = level_of(0, env.as_slice(), *name, None).unwrap_or(0);
+            Ok(Pattern::Var(level as u32))
+        }
         RawPattern::Op {
             name,
             params,
@@ -87,6 +92,7 @@ fn build_bounds(
     subs: &[RawPatternBound],
     env: &mut Vec<Sym>,
 ) -> Result<List<PBound>, NoMemory>
+    requires faultless { AreFaultlessBounds subs.now env.old.items }
     ensures value { IfOk result (λ bs. bs ≡ each_pattern_value (map bound_of subs.now) env.old.items) }
     ensures env { OnOk result (env.new.items ≡ env.old.items) }
 {
@@ -102,15 +108,18 @@ fn build_bounds(
 
 #[cycle(building)]
 fn build_bound(alloc: Global, raw: &RawPatternBound, env: &mut Vec<Sym>) -> Result<PBound, NoMemory>
+    requires faultless { IsFaultlessBound raw.now env.old.items }
     ensures value { IfOk result (λ b. b ≡ bound_of raw.now env.old.items) }
     ensures env { OnOk result (env.new.items ≡ env.old.items) }
 {
     let outer = env.len();
-    let binders = raw.binders.len().min(GREATEST) as u32;
     push_names(env, raw.binders.as_slice())?;
     let body = build_pattern(alloc, &raw.body, env)?;
     env.truncate(outer);
-    Ok(PBound { binders, body })
+    Ok(PBound {
+        binders: raw.binders.len() as u32,
+        body,
+    })
 }
 
 /// The arguments that are written, where the names `env` are bound.
@@ -120,6 +129,7 @@ fn build_args(
     args: &[RawPattern],
     env: &mut Vec<Sym>,
 ) -> Result<List<Pattern>, NoMemory>
+    requires faultless { AreFaultless args.now env.old.items }
     ensures value { IfOk result (λ ps. ps ≡ each_pattern_value (map pattern_of args.now) env.old.items) }
     ensures env { OnOk result (env.new.items ≡ env.old.items) }
 {
@@ -135,6 +145,7 @@ fn build_args(
 
 /// The item that is written; the name of a hypothesis is bound behind it.
 fn build_item(alloc: Global, raw: &RawItem, env: &mut Vec<Sym>) -> Result<Item, NoMemory>
+    requires faultless { IsFaultlessItem raw.now env.old.items }
     ensures value { IfOk result (λ i. i ≡ item_of raw.now env.old.items) }
     ensures env { OnOk result (env.new.items ≡ env_past raw.now env.old.items) }
 {
@@ -164,6 +175,7 @@ fn build_item(alloc: Global, raw: &RawItem, env: &mut Vec<Sym>) -> Result<Item, 
 }
 
 fn build_items(alloc: Global, items: &[RawItem], env: &mut Vec<Sym>) -> Result<List<Item>, NoMemory>
+    requires faultless { AreFaultlessItems items.now env.old.items }
     ensures value { IfOk result (λ is. is ≡ items_of items.now env.old.items) }
     ensures env { OnOk result (env.new.items ≡ env_behind items.now env.old.items) }
 {
@@ -177,8 +189,9 @@ fn build_items(alloc: Global, items: &[RawItem], env: &mut Vec<Sym>) -> Result<L
     Ok(built)
 }
 
-/// The schema that is written.
+/// The schema that is written, where no static rule is broken.
 pub(crate) fn build_schema(alloc: Global, raw: &RawSchema) -> Result<Schema, NoMemory>
+    requires faultless { IsFaultlessSchema raw.now }
     ensures { IfOk result (λ s. s ≡ schema_of raw.now) }
 {
     let mut env = Vec::new(alloc);
@@ -187,8 +200,9 @@ pub(crate) fn build_schema(alloc: Global, raw: &RawSchema) -> Result<Schema, NoM
     Ok(Schema { items, concl })
 }
 
-/// The schemata that are written.
-pub(crate) fn build_schemata(alloc: Global, raws: &[RawSchema]) -> Result<List<Schema>, NoMemory>
+/// The premises that are written, where no static rule is broken.
+pub(crate) fn build_premises(alloc: Global, raws: &[RawSchema]) -> Result<List<Schema>, NoMemory>
+    requires faultless { AreFaultlessPremises raws.now }
     ensures { IfOk result (λ ss. ss ≡ map schema_of raws.now) }
 {
     let mut built = List::with_capacity(alloc, raws.len() as u64)?;

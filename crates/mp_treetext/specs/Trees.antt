@@ -12,6 +12,7 @@ use Rattle.mp_theory.specs.declared.just.Given.{Given}
 use Rattle.mp_theory.specs.declared.just.Just.{Just}
 use Rattle.mp_theory.specs.declared.just.Just.TheVariants.{Rule}
 use Rattle.mp_theory.specs.declared.rule.Rule.{Rule as RuleOf}
+use Rattle.mp_theory.specs.Tables.{Laws, rule_at}
 
 -- a rule's name; nothing if there is no such rule
 abbrev pub rule_text : List (List ℕ) → Option RuleOf → List ℕ
@@ -33,10 +34,10 @@ abbrev pub all_given_text : List (List ℕ) → List Given → List ℕ
 all_given_text names given = list_text (codes " with [") (codes "]") (map (given_text names) given)
 
 -- a step by a justification: `rule` and the rule's name, where the first context ends, and what is given
-abbrev pub step_text : List (List ℕ) → List RuleOf → Option Just → List ℕ
-step_text names rules (Some (Rule place first given)) =
-    codes "rule " ++ rule_text names (slice_get rules place) ++ place_text first ++ all_given_text names given
-step_text names rules None = []
+abbrev pub step_text : List (List ℕ) → Laws → Option Just → List ℕ
+step_text names theory (Some (Rule place first given)) =
+    codes "rule " ++ rule_text names (rule_at theory place) ++ place_text first ++ all_given_text names given
+step_text names theory None = []
 
 -- a bar, the sequent and the line's end
 abbrev pub goal_text : List (List ℕ) → Sequent → List ℕ
@@ -51,12 +52,12 @@ abbrev pub all_indented : List ℕ → List Indented → List ℕ
 all_indented indent [] = []
 all_indented indent (t ∷ ts) = t indent ++ all_indented indent ts
 
-module _ (names : List (List ℕ)) (rules : List RuleOf) (justs : List Just) where
+module _ (names : List (List ℕ)) (theory : Laws) (justs : List Just) where
   -- the line of a node, and those of its kids after it
   abbrev pub tree_step : Tree-F Sequent Indented → Indented
   tree_step (layer.Leaf goal) indent = indent ++ codes "open" ++ goal_text names goal
   tree_step (layer.Step goal just kids) indent =
-      indent ++ step_text names rules (slice_get justs just.0) ++ goal_text names goal ++ all_indented (indent ++ codes "  ") kids
+      indent ++ step_text names theory (slice_get justs just.0) ++ goal_text names goal ++ all_indented (indent ++ codes "  ") kids
 
   -- a line for each node in preorder, with its justification or `open`; a kid's line is indented by two spaces more than its parent's
   abbrev pub tree_text : Tree Sequent → Indented

@@ -1,4 +1,5 @@
 ghost use Rattle.std.specs.Prelude.{◌≡◌, ◌++◌, slice_get, OnOk};
+ghost use Rattle.mp_theory.specs.Tables.{rule_at};
 ghost use Rattle.mp_treetext.specs.Trees.{rule_text, place_text, given_text, all_given_text, step_text};
 
 use mp_logic::{JustId, List, NoMemory};
@@ -32,7 +33,7 @@ pub(crate) fn push_step(
 
 /// Appends the name of the rule at this place.
 fn push_rule(out: &mut Vec<u8>, names: &Names, theory: &Theory, place: u32) -> Result<(), NoMemory>
-    ensures { OnOk result (out.new.items ≡ out.old.items ++ rule_text names.now (slice_get theory.now place)) }
+    ensures { OnOk result (out.new.items ≡ out.old.items ++ rule_text names.now (rule_at theory.now place)) }
 {
     match theory.rule(place) {
         None => Ok(()),

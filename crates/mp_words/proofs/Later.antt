@@ -5,8 +5,9 @@ use Rattle.mp_names.specs.Table.{is_same, is_held, entered, number_of, Extends}
 use Rattle.mp_names.proofs.Tables.{same_self, held_from_number, number_entered, entered_extends, extends_on}
 use Rattle.mp_lex.specs.declared.token.Kind.{Kind}
 use Rattle.mp_lex.specs.declared.token.Kind.TheVariants as kind
-use Rattle.mp_words.specs.declared.word.Word.TheVariants as word
-use Rattle.mp_words.specs.Words.{Piece, content_of, entered_if, keyword_of, name_of, names_after, names_with, numbered_of, sym_of, word_in, word_of, words_of}
+use Rattle.mp_words.specs.declared.word.What.TheVariants as what
+use Rattle.mp_lex.specs.declared.token.Token.{Token}
+use Rattle.mp_words.specs.Words.{Piece, content_of, entered_if, keyword_of, name_of, names_after, names_with, numbered_of, piece_of, pieces_of, sym_of, what_in, what_of, whats_of, word_of, words_in}
 
 -- a name that is held keeps its number where further names are entered
 pub number_of_more : (names more : List (List ℕ)) (name : List ℕ) → is_held names name ≡ true → number_of (names ++ more) name ≡ number_of names name
@@ -46,15 +47,15 @@ number_later names more name = number_of_more (entered names name) more name (he
 abbrev sym_later : (names more : List (List ℕ)) (name : List ℕ) → sym_of (entered names name ++ more) name ≡ sym_of names name
 sym_later names more name = ap (λ k. let s : Sym = record { 0 = k } in s) (number_later names more name)
 
--- a word is the same by each table that extends the one behind it
-word_later : (names more : List (List ℕ)) (k : Kind) (text : List ℕ) → word_in (entered_if names (name_of k text) ++ more) k text ≡ word_in names k text
-word_later names more kind.Small text = ap (λ s. word.Small s (keyword_of text)) (sym_later names more text)
-word_later names more kind.Cap text = ap (λ s. word.Cap s) (sym_later names more text)
-word_later names more kind.SmallVar text = ap (λ s. word.SmallVar s (numbered_of (drop 1 text))) (sym_later names more (drop 1 text))
-word_later names more kind.CapVar text = ap (λ s. word.CapVar s) (sym_later names more (drop 1 text))
-word_later names more kind.Num text = refl
-word_later names more kind.Str text = ap (λ s. word.Str s) (sym_later names more (content_of text))
-word_later names more kind.Mark text = refl
+-- what a token is is the same by each table that extends the one behind it
+what_later : (names more : List (List ℕ)) (k : Kind) (text : List ℕ) → what_in (entered_if names (name_of k text) ++ more) k text ≡ what_in names k text
+what_later names more kind.Small text = ap (λ s. what.Small s (keyword_of text)) (sym_later names more text)
+what_later names more kind.Cap text = ap (λ s. what.Cap s) (sym_later names more text)
+what_later names more kind.SmallVar text = ap (λ s. what.SmallVar s (numbered_of (drop 1 text))) (sym_later names more (drop 1 text))
+what_later names more kind.CapVar text = ap (λ s. what.CapVar s) (sym_later names more (drop 1 text))
+what_later names more kind.Num text = refl
+what_later names more kind.Str text = ap (λ s. what.Str s) (sym_later names more (content_of text))
+what_later names more kind.Mark text = refl
 
 names_with_extends : (names : List (List ℕ)) (name : Option (List ℕ)) → Extends names (entered_if names name)
 names_with_extends names None = ([], sym (append-nil names))
@@ -65,11 +66,25 @@ pub names_after_extends : (names : List (List ℕ)) (ps : List Piece) → Extend
 names_after_extends names [] = ([], sym (append-nil names))
 names_after_extends names (p ∷ ps) = extends_on names (names_with names p) (names_after (names_with names p) ps) (names_with_extends names (name_of p.kind p.text)) (names_after_extends (names_with names p) ps)
 
--- the words of pieces are those by the table that they leave
-pub words_by_last : (names : List (List ℕ)) (ps : List Piece) → words_of names ps ≡ map (word_of (names_after names ps)) ps
-words_by_last names [] = refl
-words_by_last names (p ∷ ps) =
+-- what pieces are is so by the table that they leave
+pub whats_by_last : (names : List (List ℕ)) (ps : List Piece) → whats_of names ps ≡ map (what_of (names_after names ps)) ps
+whats_by_last names [] = refl
+whats_by_last names (p ∷ ps) =
     let (more, e) = names_after_extends (names_with names p) ps in
-    let here : word_of (names_after names (p ∷ ps)) p ≡ word_of names p = ap (λ ns. word_of ns p) e ∙ word_later names more p.kind p.text in
-    let rest = words_by_last (names_with names p) ps in
-    ap (λ w. w ∷ words_of (names_with names p) ps) (sym here) ∙ ap (λ ws. word_of (names_after names (p ∷ ps)) p ∷ ws) rest
+    let here : what_of (names_after names (p ∷ ps)) p ≡ what_of names p = ap (λ ns. what_of ns p) e ∙ what_later names more p.kind p.text in
+    let rest = whats_by_last (names_with names p) ps in
+    ap (λ w. w ∷ whats_of (names_with names p) ps) (sym here) ∙ ap (λ ws. what_of (names_after names (p ∷ ps)) p ∷ ws) rest
+
+-- what the words of a text are is what its pieces are
+pub whats_in : (names : List (List ℕ)) (source : List ℕ) (ts : List Token) → map (λ w. w.what) (words_in names source ts) ≡ whats_of names (pieces_of source ts)
+whats_in names source [] = refl
+whats_in names source (t ∷ ts) = ap (λ ws. what_of names (piece_of source t) ∷ ws) (whats_in (names_with names (piece_of source t)) source ts)
+
+-- one token more
+pub words_last : (names : List (List ℕ)) (source : List ℕ) (ts : List Token) (t : Token) → words_in names source (ts ++ t ∷ []) ≡ words_in names source ts ++ word_of (names_after names (pieces_of source ts)) source t ∷ []
+words_last names source [] t = refl
+words_last names source (u ∷ ts) t = ap (λ ws. word_of names source u ∷ ws) (words_last (names_with names (piece_of source u)) source ts t)
+
+pub names_last : (names : List (List ℕ)) (source : List ℕ) (ts : List Token) (t : Token) → names_after names (pieces_of source (ts ++ t ∷ [])) ≡ names_with (names_after names (pieces_of source ts)) (piece_of source t)
+names_last names source [] t = refl
+names_last names source (u ∷ ts) t = names_last (names_with names (piece_of source u)) source ts t

@@ -1,10 +1,14 @@
 pub mod Answering
-pub mod Combine
 pub mod FaultParts
+pub mod FrontFacts
+pub mod Grammars
 pub mod Later
+pub mod Lexing
+pub mod Lines
 pub mod Loops
 pub mod MetWalks
 pub mod NoFaults
+pub mod Seconds
 pub mod Soonest
 pub mod Steps
 pub mod TableFacts

@@ -20,7 +20,7 @@ no_fault false l w h = refl
 
 -- a number without a fault is in its range
 pub number_between : (least most : ℕ) (n : RawNumber) → number_faults least most n ≡ [] → (nat_le least (nat_abs n.value) && nat_le (nat_abs n.value) most) ≡ true
-number_between least most n h = absolute n.value (by (is_between least most n.value) (no_fault (not (is_between least most n.value)) n.left why.BadNumber h))
+number_between least most n h = absolute n.value (by (is_between least most n.value) (no_fault (not (is_between least most n.value)) n.at why.BadNumber h))
   where
     by : (b : Bool) → not b ≡ false → b ≡ true
     by true e = refl

@@ -1,6 +1,6 @@
 -- The static faults of a text, and which of them is reported.
 use Rattle.std.specs.Prelude.{◌≡◌, ◌⊎◌, ℕ, List, [], ◌∷◌, Option, None, Some, Bool, false, nat_lt, nat_eq, ◌&&◌, ◌||◌, if◌then◌else◌, slice_get}
-use Rattle.mp_words.specs.declared.fault.Fault.{Fault}
+use Rattle.mp_words.specs.declared.fail.TextErr.{TextErr}
 use Rattle.mp_words.specs.declared.fail.TextWhy.{TextWhy}
 use Rattle.mp_words.specs.declared.fail.TextWhy.TheVariants as why
 
@@ -44,60 +44,70 @@ rank_of why.TooNested = 34
 rank_of why.Syntax = 35
 
 -- f is reported rather than g: it is at an earlier place, or at the same place and before it in the order of kinds
-abbrev pub is_sooner : Fault → Fault → Bool
-is_sooner f g = nat_lt g.left f.left || (nat_eq f.left g.left && nat_lt (rank_of f.why) (rank_of g.why))
+abbrev pub is_sooner : TextErr → TextErr → Bool
+is_sooner f g = nat_lt f.at g.at || (nat_eq f.at g.at && nat_lt (rank_of f.why) (rank_of g.why))
 
 -- the earlier one of two faults, the first of which may be absent
-abbrev pub sooner : Option Fault → Fault → Option Fault
+abbrev pub sooner : Option TextErr → TextErr → Option TextErr
 sooner None f = Some f
 sooner (Some g) f = if is_sooner f g then Some f else Some g
 
 -- the earliest of the faults, a held one among them
-abbrev pub least_from : Option Fault → List Fault → Option Fault
+abbrev pub least_from : Option TextErr → List TextErr → Option TextErr
 least_from held [] = held
 least_from held (f ∷ fs) = least_from (sooner held f) fs
 
 -- the fault of the list that is reported, if it has any
-abbrev pub least : List Fault → Option Fault
+abbrev pub least : List TextErr → Option TextErr
 least fs = least_from None fs
 
--- the fault that is held is at an earlier place than where so many words are left
-abbrev pub is_behind : Option Fault → ℕ → Bool
-is_behind None l = false
-is_behind (Some f) l = nat_lt l f.left
+-- a fault of the list of passes: that of the first pass that has one
+abbrev pub or_else : Option TextErr → Option TextErr → Option TextErr
+or_else (Some f) later = Some f
+or_else None later = later
 
--- the fault where so many words are left
-abbrev pub fault : ℕ → TextWhy → List Fault
-fault l w = record { left = l; why = w } ∷ []
+-- the least fault of the first list that has any; the lists behind it don't count
+abbrev pub fault_of_passes : List (List TextErr) → Option TextErr
+fault_of_passes [] = None
+fault_of_passes (fs ∷ passes) = or_else (least fs) (fault_of_passes passes)
+
+-- the fault that is held is at an earlier byte than this
+abbrev pub is_behind : Option TextErr → ℕ → Bool
+is_behind None at = false
+is_behind (Some f) at = nat_lt f.at at
+
+-- the fault at this byte
+abbrev pub fault : ℕ → TextWhy → List TextErr
+fault at w = record { at = at; why = w } ∷ []
 
 -- the fault at the place of the item, if there is one
-abbrev pub fault_at_any : {X : Type 0} → (X → ℕ) → TextWhy → Option X → List Fault
+abbrev pub fault_at_any : {X : Type 0} → (X → ℕ) → TextWhy → Option X → List TextErr
 fault_at_any place w None = []
 fault_at_any place w (Some x) = fault (place x) w
 
 -- the fault of a list with more than so many items, at the first one too many
-abbrev pub too_many : {X : Type 0} → (X → ℕ) → ℕ → List X → List Fault
+abbrev pub too_many : {X : Type 0} → (X → ℕ) → ℕ → List X → List TextErr
 too_many place most xs = fault_at_any place why.TooMany (slice_get xs most)
 
 -- the fault, if the test passes
-abbrev pub fault_if : Bool → ℕ → TextWhy → List Fault
-fault_if test l w = if test then fault l w else []
+abbrev pub fault_if : Bool → ℕ → TextWhy → List TextErr
+fault_if test at w = if test then fault at w else []
 
 -- the fault is one of the list
-abbrev pub IsOneOf : Fault → List Fault → Type 0
+abbrev pub IsOneOf : TextErr → List TextErr → Type 0
 IsOneOf f [] = ⊥
 IsOneOf f (g ∷ gs) = (f ≡ g) ⊎ IsOneOf f gs
 
 -- none of the faults is earlier
-abbrev pub NoneSooner : Fault → List Fault → Type 0
+abbrev pub NoneSooner : TextErr → List TextErr → Type 0
 NoneSooner f [] = Unit {0}
 NoneSooner f (g ∷ gs) = (is_sooner g f ≡ false) × NoneSooner f gs
 
 -- the fault is one of the list, and none of the list is earlier; None only if the list is empty
-abbrev pub IsLeastOf : List Fault → Option Fault → Type 0
+abbrev pub IsLeastOf : List TextErr → Option TextErr → Type 0
 IsLeastOf fs None = fs ≡ []
 IsLeastOf fs (Some f) = IsOneOf f fs × NoneSooner f fs
 
 -- the reported fault is one of the faults, and none of them is earlier; None only if there are no faults
 abbrev pub LeastIsLeast : Type 0
-LeastIsLeast = (fs : List Fault) → IsLeastOf fs (least fs)
+LeastIsLeast = (fs : List TextErr) → IsLeastOf fs (least fs)

@@ -1,5 +1,8 @@
 pub mod Faults
-pub mod Parts
+pub mod Fronts
+pub mod Grammars
 pub mod Ranges
+pub mod Reading
+pub mod Seconds
 pub mod Texts
 pub mod Words

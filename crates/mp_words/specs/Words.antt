@@ -1,18 +1,20 @@
 -- The words of a text: its tokens, with the numbers of their names in place of the bytes.
-use Rattle.std.specs.Prelude.{ℕ, zero, suc, List, [], ◌∷◌, drop, map, codes, Option, Some, None, Bool, true, false, nat_eq, nat_lt, ◌&&◌, if◌then◌else◌, ℤ, pos, negsuc}
+use Rattle.std.specs.Prelude.{ℕ, zero, suc, List, [], ◌∷◌, drop, map, codes, Option, Some, None, Bool, true, false, nat_eq, nat_lt, get_or, ◌&&◌, ◌||◌, if◌then◌else◌, ℤ, pos, negsuc}
 use Rattle.mp_logic.specs.declared.sym.Sym.{Sym}
 use Rattle.mp_names.specs.Table.{is_same, entered, number_of}
 use Rattle.mp_lex.specs.declared.token.Kind.{Kind}
 use Rattle.mp_lex.specs.declared.token.Kind.TheVariants as kind
 use Rattle.mp_lex.specs.declared.token.Token.{Token}
+use Rattle.mp_lex.specs.Bytes.{is_blank}
 use Rattle.mp_lex.specs.Forms.{is_positive, number_of_digits}
 use Rattle.mp_lex.specs.Lex.{token_text}
 use Rattle.mp_words.specs.declared.word.Mark.{Mark}
 use Rattle.mp_words.specs.declared.word.Mark.TheVariants as mark
 use Rattle.mp_words.specs.declared.word.Keyword.{Keyword}
 use Rattle.mp_words.specs.declared.word.Keyword.TheVariants as keyword
+use Rattle.mp_words.specs.declared.word.What.{What}
+use Rattle.mp_words.specs.declared.word.What.TheVariants as what
 use Rattle.mp_words.specs.declared.word.Word.{Word}
-use Rattle.mp_words.specs.declared.word.Word.TheVariants as word
 
 -- the kind of a token and its text
 pub record Piece : Type 0 where
@@ -109,26 +111,44 @@ names_with names p = entered_if names (name_of p.kind p.text)
 abbrev pub sym_of : List (List ℕ) → List ℕ → Sym
 sym_of names name = record { 0 = number_of names name }
 
--- the word of a token of this kind, by the table of names before it
-abbrev pub word_in : List (List ℕ) → Kind → List ℕ → Word
-word_in names kind.Small text = word.Small (sym_of names text) (keyword_of text)
-word_in names kind.Cap text = word.Cap (sym_of names text)
-word_in names kind.SmallVar text = word.SmallVar (sym_of names (drop 1 text)) (numbered_of (drop 1 text))
-word_in names kind.CapVar text = word.CapVar (sym_of names (drop 1 text))
-word_in names kind.Num text = word.Num (integer_of text)
-word_in names kind.Str text = word.Str (sym_of names (content_of text))
-word_in names kind.Mark text = word.Mark (mark_of text)
+-- what a token of this kind is, by the table of names before it
+abbrev pub what_in : List (List ℕ) → Kind → List ℕ → What
+what_in names kind.Small text = what.Small (sym_of names text) (keyword_of text)
+what_in names kind.Cap text = what.Cap (sym_of names text)
+what_in names kind.SmallVar text = what.SmallVar (sym_of names (drop 1 text)) (numbered_of (drop 1 text))
+what_in names kind.CapVar text = what.CapVar (sym_of names (drop 1 text))
+what_in names kind.Num text = what.Num (integer_of text)
+what_in names kind.Str text = what.Str (sym_of names (content_of text))
+what_in names kind.Mark text = what.Mark (mark_of text)
 
--- the word of a piece, by the table of names before it
-abbrev pub word_of : List (List ℕ) → Piece → Word
-word_of names p = word_in names p.kind p.text
+-- what a piece is, by the table of names before it
+abbrev pub what_of : List (List ℕ) → Piece → What
+what_of names p = what_in names p.kind p.text
 
--- the words of pieces, from left to right, each by the table that those before it leave
-abbrev pub words_of : List (List ℕ) → List Piece → List Word
-words_of names [] = []
-words_of names (p ∷ ps) = word_of names p ∷ words_of (names_with names p) ps
+-- what pieces are, from left to right, each by the table that those before it leave
+abbrev pub whats_of : List (List ℕ) → List Piece → List What
+whats_of names [] = []
+whats_of names (p ∷ ps) = what_of names p ∷ whats_of (names_with names p) ps
 
 -- the table of names that pieces leave
 abbrev pub names_after : List (List ℕ) → List Piece → List (List ℕ)
 names_after names [] = names
 names_after names (p ∷ ps) = names_after (names_with names p) ps
+
+-- the byte is a newline, or it is a separator before which only separators stand on its line
+abbrev pub leads_line : ℕ → Bool → Bool
+leads_line b before = nat_eq b 10 || (is_blank b && before)
+
+-- no token stands before this place on its line
+abbrev pub opens_line : List ℕ → ℕ → Bool
+opens_line source zero = true
+opens_line source (suc at) = leads_line (get_or source at 0) (opens_line source at)
+
+-- the word of a token, by the table of names before it
+abbrev pub word_of : List (List ℕ) → List ℕ → Token → Word
+word_of names source t = record { at = t.from; opens_line = opens_line source t.from; what = what_of names (piece_of source t) }
+
+-- the words of a text with these tokens, from left to right, each by the table of names that those before it leave
+abbrev pub words_in : List (List ℕ) → List ℕ → List Token → List Word
+words_in names source [] = []
+words_in names source (t ∷ ts) = word_of names source t ∷ words_in (names_with names (piece_of source t)) source ts

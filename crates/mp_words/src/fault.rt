@@ -1,15 +1,7 @@
 ghost use Rattle.std.specs.Prelude.{◌≡◌};
-ghost use Rattle.mp_words.specs.Faults.{rank_of, is_behind, sooner, LeastIsLeast};
+ghost use Rattle.mp_words.specs.Faults.{fault_if, is_behind, least_from, rank_of, sooner, LeastIsLeast};
 
-use crate::TextWhy;
-
-/// A broken static rule, and how many words are left where it is broken, the word itself among them. So more
-/// are left at an earlier place.
-#[derive(Clone, Copy, Debug, PartialEq, Eq)]
-pub struct Fault {
-    pub left: u64,
-    pub why: TextWhy,
-}
+use crate::{TextErr, TextWhy};
 
 /// The place of a static fault in the order of those at one place.
 fn rank(why: TextWhy) -> u64
@@ -55,29 +47,35 @@ fn rank(why: TextWhy) -> u64
     }
 }
 
-/// The sooner one of the fault that is held and this one: the one at the earlier place, and at one place the
+/// The sooner one of the fault that is held and this one at a byte: the one at the earlier place, and at one place the
 /// one that is first in the order. Of two alike the one that is held stays.
-pub fn sooner_of(held: Option<Fault>, left: u64, why: TextWhy) -> Option<Fault>
-    ensures { result ≡ sooner held (record { left = left; why = why }) }
+pub fn sooner_of(held: Option<TextErr>, at: u32, why: TextWhy) -> Option<TextErr>
+    ensures { result ≡ sooner held (record { at = at; why = why }) }
 {
-    let fault = Fault { left, why };
+    let fault = TextErr { at: at as u64, why };
     let Some(other) = held else {
         return Some(fault);
     };
-    if other.left < left || (left == other.left && rank(why) < rank(other.why)) {
+    if fault.at < other.at || (fault.at == other.at && rank(why) < rank(other.why)) {
         Some(fault)
     } else {
         Some(other)
     }
 }
 
-/// Whether the fault that is held is at an earlier place, so that no fault where so many words are left is
-/// sooner.
-pub fn behind(held: Option<Fault>, left: u64) -> bool
-    ensures { result ≡ is_behind held left }
+/// The sooner one of the fault that is held and this one at a byte, if the test passes.
+pub fn sooner_if(held: Option<TextErr>, test: bool, at: u32, why: TextWhy) -> Option<TextErr>
+    ensures { result ≡ least_from held (fault_if test at why) }
+{
+    if test { sooner_of(held, at, why) } else { held }
+}
+
+/// Whether the fault that is held is at an earlier byte, so that no fault at this one is sooner.
+pub fn behind(held: Option<TextErr>, at: u32) -> bool
+    ensures { result ≡ is_behind held at }
 {
     match held {
-        Some(fault) => left < fault.left,
+        Some(fault) => fault.at < at as u64,
         None => false,
     }
 }

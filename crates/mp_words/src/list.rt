@@ -1,5 +1,7 @@
 ghost use Rattle.std.specs.Prelude.{◌≡◌, ◌+◌, ◌<◌, ◌≤◌, [], List, Bool, length, IfOk};
-ghost use Rattle.mp_words.specs.Parts.{Reads, IsMark, IsNameAt, Lacks, Separated, StuckSeparated, Listed, StuckListed, Many, StuckMany, Repeated, StuckRepeated, Whole, StuckWhole};
+ghost use Rattle.mp_words.specs.Grammars.{Grammar, listed, many, repeated, row, whole};
+ghost use Rattle.mp_words.specs.Fronts.{a_name, is_mark};
+ghost use Rattle.mp_words.specs.Reading.{Reads};
 ghost use Rattle.mp_words.specs.declared.word.Word.{Word};
 
 use crate::parts::{ReadFail, mark, name_at, stuck};
@@ -12,24 +14,19 @@ pub trait Reader {
     /// What the part is as it is written.
     type Raw: Drop;
 
-    /// The part stands at the front of words, and these are left.
-    ghost is: { Self.Raw → List Word → List Word → Type 0 };
-
-    /// A reading of the part is stuck at the first of these words.
-    ghost stops: { List Word → List Word → Type 0 };
+    /// The grammar of the part.
+    ghost grammar: { Grammar Word Self.Raw };
 
     /// Reads the part at the front of the words. It takes one word at least.
     fn read(alloc: Global, words: &[Word]) -> Result<(Self::Raw, &[Word]), ReadFail>
-        ensures reads { Reads (λ x. (x.0, x.1.now)) is stops words.now result }
+        ensures reads { Reads (λ x. (x.0, x.1.now)) grammar words.now result }
         ensures shorter { IfOk result (λ x. length x.1.now < length words.now) };
 }
 
 impl Reader for RawName {
     type Raw = RawName;
 
-    ghost is = { IsNameAt };
-
-    ghost stops = { Lacks IsNameAt };
+    ghost grammar = { a_name };
 
     /// Reads a name that begins with a small letter.
     fn read(_alloc: Global, words: &[Word]) -> Result<(RawName, &[Word]), ReadFail> {
@@ -47,7 +44,7 @@ pub fn separated<R: Reader>(
     separator: Mark,
     end: Mark,
 ) -> Result<(List<R::Raw>, &[Word]), ReadFail>
-    ensures reads { Reads (λ x. (x.0, x.1.now)) (Separated R.is (IsMark separator) (IsMark end)) (StuckSeparated R.is R.stops (IsMark separator) (IsMark end)) words.now result }
+    ensures reads { Reads (λ x. (x.0, x.1.now)) (row R.grammar (is_mark separator) (is_mark end)) words.now result }
     ensures shorter { IfOk result (λ x. length x.1.now < length words.now) }
     ensures few { IfOk result (λ x. length x.0 + length x.1.now ≤ length words.now) }
 {
@@ -79,7 +76,7 @@ pub fn listed<R: Reader>(
     separator: Mark,
     end: Mark,
 ) -> Result<(List<R::Raw>, &[Word]), ReadFail>
-    ensures reads { Reads (λ x. (x.0, x.1.now)) (Listed R.is (IsMark separator) (IsMark end)) (StuckListed R.is R.stops (IsMark separator) (IsMark end)) words.now result }
+    ensures reads { Reads (λ x. (x.0, x.1.now)) (listed R.grammar (is_mark separator) (is_mark end)) words.now result }
     ensures shorter { IfOk result (λ x. length x.1.now < length words.now) }
     ensures few { IfOk result (λ x. length x.0 + length x.1.now ≤ length words.now) }
 {
@@ -91,7 +88,7 @@ pub fn listed<R: Reader>(
 
 /// Reads the part again and again, up to the end of the words.
 pub fn many<R: Reader>(alloc: Global, words: &[Word]) -> Result<List<R::Raw>, ReadFail>
-    ensures reads { Reads (λ x. (x, [])) (Many R.is) (StuckMany R.is R.stops) words.now result }
+    ensures reads { Reads (λ x. (x, [])) (whole (many R.grammar)) words.now result }
     ensures few { IfOk result (λ x. length x ≤ length words.now) }
 {
     let mut items = List::new(alloc);
@@ -125,7 +122,7 @@ pub fn repeated<R: Beginning>(
     alloc: Global,
     words: &[Word],
 ) -> Result<(List<R::Raw>, &[Word]), ReadFail>
-    ensures reads { Reads (λ x. (x.0, x.1.now)) (Repeated R.is R.begun) (StuckRepeated R.is R.begun R.stops) words.now result }
+    ensures reads { Reads (λ x. (x.0, x.1.now)) (repeated R.begun R.grammar) words.now result }
     ensures few { IfOk result (λ x. length x.0 + length x.1.now ≤ length words.now) }
 {
     let mut items = List::new(alloc);
@@ -146,7 +143,7 @@ pub fn repeated<R: Beginning>(
 
 /// Reads the part that is all of the words.
 pub fn whole<R: Reader>(alloc: Global, words: &[Word]) -> Result<R::Raw, ReadFail>
-    ensures { Reads (λ x. (x, [])) (Whole R.is) (StuckWhole R.is R.stops) words.now result }
+    ensures { Reads (λ x. (x, [])) (whole R.grammar) words.now result }
 {
     let (raw, rest) = match R::read(alloc, words) {
         Ok(read) => read,

@@ -1,15 +1,15 @@
 use mp_logic::Sym;
 
-/// A name as it is written, and how many words are left where it stands, itself among them.
+/// A name as it is written, and its first byte.
 #[derive(Clone, Copy, Debug, PartialEq, Eq)]
 pub struct RawName {
     pub name: Sym,
-    pub left: u64,
+    pub at: u32,
 }
 
-/// A number as it is written, and how many words are left where it stands.
+/// A number as it is written, and its first byte.
 #[derive(Clone, Copy, Debug, PartialEq, Eq)]
 pub struct RawNumber {
     pub value: i64,
-    pub left: u64,
+    pub at: u32,
 }

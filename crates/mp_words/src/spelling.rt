@@ -5,6 +5,7 @@ ghost use Rattle.mp_lex.specs.Forms.{is_positive, is_number, number_of_digits};
 ghost use Rattle.mp_words.specs.Words.{content_of, integer_of, keyword_of, mark_of, minus, numbered_of, unescaped};
 
 use crate::{Keyword, Mark};
+use mp_lex::{digit, digits_value};
 use mp_logic::NoMemory;
 use std::alloc::Global;
 
@@ -92,25 +93,6 @@ pub(crate) fn mark(text: &[u8]) -> Mark
     }
 }
 
-/// The number that the digits write; it stops at the greatest `u64`.
-fn value(digits: &[u8]) -> u64
-    ensures { result ≡ min (number_of_digits digits.now) 18446744073709551615 }
-{
-    let mut total = 0u64;
-    for digit in digits {
-        total = total
-            .saturating_mul(10)
-            .saturating_add(digit.saturating_sub(b'0') as u64);
-    }
-    total
-}
-
-fn digit(b: u8) -> bool
-    ensures { result ≡ is_digit b }
-{
-    b'0' <= b && b <= b'9'
-}
-
 fn all_digits(bytes: &[u8]) -> bool
     ensures { result ≡ list_all is_digit bytes.now }
 {
@@ -140,7 +122,7 @@ pub(crate) fn numbered(name: &[u8]) -> Option<u32>
     if *first != b'x' || !positive(digits) {
         return None;
     }
-    let number = value(digits);
+    let number = digits_value(digits);
     if number < 1 << 32 {
         Some(number as u32)
     } else {
@@ -157,9 +139,9 @@ pub(crate) fn integer(text: &[u8]) -> i64
         return 0;
     };
     if *first == b'-' {
-        negated(value(digits))
+        negated(digits_value(digits))
     } else {
-        value(text) as i64
+        digits_value(text) as i64
     }
 }
 

@@ -64,9 +64,9 @@ pub enum Keyword {
     Reissue,
 }
 
-/// A token with the number of its name in place of the bytes. Grammars are over words.
+/// What a token is, with the number of its name in place of the bytes.
 #[derive(Clone, Copy, Debug, PartialEq, Eq)]
-pub enum Word {
+pub enum What {
     /// A name that begins with a small letter, and the word of a grammar that it spells, if any.
     Small { name: Sym, keyword: Option<Keyword> },
     /// A name that begins with a capital letter.
@@ -80,4 +80,12 @@ pub enum Word {
     /// A string, by its content.
     Str(Sym),
     Mark(Mark),
+}
+
+/// A token: its first byte, whether no other one stands before it on its line, and what it is. Grammars are over words.
+#[derive(Clone, Copy, Debug, PartialEq, Eq)]
+pub struct Word {
+    pub at: u32,
+    pub opens_line: bool,
+    pub what: What,
 }

@@ -1,12 +1,10 @@
 -- What follows of the calls of `put` on the sinks of this crate.
-use Rattle.std.proofs.Common.{◌≡◌, ℕ, ◌≤◌, ◌++◌, List, [], take, Option, Some, None, Result, Ok, Err, Bool, true, false, refl, ap, sym, subst, arith}
+use Rattle.std.proofs.Common.{◌≡◌, ℕ, ◌≤◌, ◌++◌, List, [], take, Option, Some, None, Result, Ok, Err, Bool, true, false, ap}
 use Rattle.mp_ports.specs.declared.ports.PutFailed.{PutFailed}
 use Rattle.mp_ports.specs.Calls.{Put}
-use Rattle.mp_ports.specs.Causes.{raised, Rose, PutCause}
+use Rattle.mp_ports.specs.Causes.{raised, PutCause}
+use Rattle.mp_ports.specs.laws.Reads.{rose_by}
 use Rattle.mp_ports.specs.Sinks.{PutTakes, SinkState, PutBy, SinkPut, MemPuts, OutPuts, faults_after, listed, due, fits, took, failed}
-
-rose_by : (before now : ℕ) → now ≡ raised before → Rose before now
-rose_by before now e = subst (λ n. raised before ≤ n) (sym e) (omega arith)
 
 -- ## The sink in memory
 

@@ -13,7 +13,8 @@ record Known (old new : ShelfState) (file : Option (List ℕ)) (limit : ℕ) (an
   pub cause : ReadCause old.faults new.faults old.longs new.longs answer
   pub files : new.files ≡ old.files
 
-rose_by : (before now : ℕ) → now ≡ raised before → Rose before now
+-- a count after one more rose
+pub rose_by : (before now : ℕ) → now ≡ raised before → Rose before now
 rose_by before now e = subst (λ n. raised before ≤ n) (sym e) (omega arith)
 
 files_at : ShelfState → List (List ℕ × List ℕ)

@@ -60,8 +60,8 @@ build_within-variables_before-requires-clause-made t c =
     let x = c.in-Meta in
     rw c.as_slice-in-Meta.ensures (contexts_made (instance_of a.inst.now) (spot_of a.site.now) a.span.base a.p.now x.name x.ctxs x.args a.span.scope x.is c.requires)
 
-pub build_within-put_in-requires : goal.build_within-put_in-requires
-build_within-put_in-requires t c =
+pub build_within-put_or_share-requires : goal.build_within-put_or_share-requires
+build_within-put_or_share-requires t c =
     let a = c.args in
     let v = instance_of a.inst.now in
     let l = spot_of a.site.now in
@@ -82,4 +82,4 @@ build_within-returns-in_ok-push_args-in-Meta t c =
     let grown = rw c.as_slice-in-Meta-2.ensures at c.in_ok-push_args-in-Meta.ensures in
     let all = used_behind v l a.span.base c.value_or-value.result.now x.ctxs x.args a.span.scope _ _ fore grown in
     let made = meta_made v l a.span.base c.value_or-value.result.now a.p.now x.name x.ctxs x.args a.span.scope _ x.is c.value_or-value.ensures (c.as_slice-in-Meta-3.ensures.value ∙ all) in
-    rw made at c.put_in.ensures
+    rw made at c.put_or_share.ensures

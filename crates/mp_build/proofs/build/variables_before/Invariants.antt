@@ -1,6 +1,6 @@
 use Rattle.std.proofs.Common.{◌≡◌, ◌++◌, map, length, drop}
 use Rattle.mp_term.specs.declared.term.Term.{Var}
-use Rattle.mp_schema.specs.Instances.{upto}
+use Rattle.mp_term.specs.Subst.{upto}
 use Rattle.mp_schema.specs.Sequents.{ground_at}
 use Rattle.mp_logic.specs.Lists.{joined}
 use Rattle.mp_schema.specs.Values.{instance_of, kept_of}

@@ -158,18 +158,18 @@ weigh_pattern-weigh_applied-requires t c =
     let w : most pattern_size.the_size c.as_slice-args.result.now < pattern_size.the_size c.args.p.now = rw (x.is, c.as_slice-args.ensures) (args_below x.name x.ctxs x.args) in
     (omega (arith, w, c.decreases), (rw c.as_slice-ctxs.ensures narrow.0, rw c.as_slice-args.ensures narrow.1))
 
-pub weigh_pattern-returns-in-Some-meta_value : goal.weigh_pattern-returns-in-Some-meta_value
-weigh_pattern-returns-in-Some-meta_value t c =
+pub weigh_pattern-returns-in-Some-get : goal.weigh_pattern-returns-in-Some-get
+weigh_pattern-returns-in-Some-get t c =
     let v = instance_of c.args.inst.now in
     let x = c.in-Meta in
-    let value : v.values.meta x.name ≡ c.in-Some-meta_value.value.now.body = ap body_or (sym c.in-Some-meta_value.ensures) in
+    let value : v.values.meta x.name ≡ c.in-Some-get.value.now.body = ap body_or (sym c.in-Some-get.ensures) in
     let known = rw (c.as_slice-ctxs.ensures, c.as_slice-args.ensures, ← value) at c.weigh_applied.ensures in
     rw (x.is, inst_size-Meta (wide_of v) v.values x.name x.ctxs x.args, inst_depth-Meta (wide_of v) v.values x.name x.ctxs x.args) known
 
-pub weigh_pattern-returns-in-None-meta_value : goal.weigh_pattern-returns-in-None-meta_value
-weigh_pattern-returns-in-None-meta_value t c =
+pub weigh_pattern-returns-in-None-get : goal.weigh_pattern-returns-in-None-get
+weigh_pattern-returns-in-None-get t c =
     let v = instance_of c.args.inst.now in
     let x = c.in-Meta in
-    let value : v.values.meta x.name ≡ Var 0 = ap body_or (sym c.in-None-meta_value.ensures) in
-    let known = rw (c.as_slice-ctxs.ensures, c.as_slice-args.ensures, ← value) at c.weigh_applied-in-None-meta_value.ensures in
+    let value : v.values.meta x.name ≡ Var 0 = ap body_or (sym c.in-None-get.ensures) in
+    let known = rw (c.as_slice-ctxs.ensures, c.as_slice-args.ensures, ← value) at c.weigh_applied-in-None-get.ensures in
     rw (x.is, inst_size-Meta (wide_of v) v.values x.name x.ctxs x.args, inst_depth-Meta (wide_of v) v.values x.name x.ctxs x.args) known

@@ -1,12 +1,12 @@
 use Rattle.std.proofs.Common.{◌≡◌, ◌<◌, ◌≤◌, ◌+◌, length, get_or, IsTrue, sym, subst, ap, ◌∙◌, arith}
 use Rattle.mp_strategy.specs.Evaluation.{eval}
 use Rattle.mp_strategy.specs.Strategies.{Evals}
-use Rattle.mp_strategy.proofs.Allowed.{evals_in}
-use Rattle.mp_strategy.proofs.Sound.{sound_in}
-use Rattle.mp_strategy.proofs.Unfolds.{rows_of}
+use Rattle.mp_strategy.proofs.Allowed.{eval_allowed}
+use Rattle.mp_strategy.proofs.Inner.{goals_good}
 use Rattle.mp_core.specs.declared.state.CoreState.{CoreState}
 use Rattle.mp_core.specs.Cores.{started, moved}
 use Rattle.mp_core.specs.Machine.{opening}
+use Rattle.mp_core.proofs.Validity.{evals_valid}
 use Rattle.mp_drill.specs.declared.schedule.Event.TheVariants as event
 use Rattle.mp_drill.specs.Ranges.{are_in_range}
 use Rattle.mp_drill.specs.Rounds.{Rounds}
@@ -20,14 +20,14 @@ pub loop-event-init : goal.loop-event-init
 loop-event-init g c =
     let problem = c.args.problem.now in
     let work = c.args.work in
-    let each = eval (g.L.Logic.step_of problem.logic.now) problem.justs problem.tacs in
+    let each = eval g.L.Logic.meaning problem in
     let core = c.in_ok-start.field-0 in
     let workers = c.in_ok-idle_workers.field-0.items in
     let machine : core.machine ≡ opening work = ap (λ (k : CoreState _ _ _). k.machine) c.in_ok-start.ensures.started in
     let first : world core.machine workers ≡ first_world work = ap (λ m. world m workers) machine ∙ ap (λ ws. world (opening work) ws) c.in_ok-idle_workers.ensures in
     record {
-      ready = ready_first g.L.Logic.good g.L.Logic.step_of core workers c.in_ok-start.ensures.sound c.in_ok-idle_workers.ensures;
-      same = c.in_ok-start.ensures.started ∙ ap (λ m. started problem.logic.now problem.justs problem.tacs m) (sym machine);
+      ready = ready_first g.L.Logic.meaning core workers c.in_ok-start.ensures.sound c.in_ok-idle_workers.ensures;
+      same = c.in_ok-start.ensures.started ∙ ap (λ m. started problem m) (sym machine);
       good = subst (λ w. Good each work w) (sym first) (first_good each work);
       onward = no_event each (first_world work) (world core.machine workers) c.as_slice-event-items.result.now c.in_ok-replies.replies first c.in_ok-replies.ensures;
     }
@@ -42,7 +42,7 @@ pub loop-event-preserved : goal.loop-event-preserved
 loop-event-preserved g c =
     let problem = c.args.problem.now in
     let work = c.args.work in
-    let each = eval (g.L.Logic.step_of problem.logic.now) problem.justs problem.tacs in
+    let each = eval g.L.Logic.meaning problem in
     let items = c.as_slice-event-items.result.now in
     let here : c.loop-event.event-index < length items = omega arith in
     let core = c.loop-event.session.core in
@@ -50,7 +50,7 @@ loop-event-preserved g c =
     let now = world core.machine c.loop-event.session.workers.items in
     let new = world after.machine c.happen.new.self.workers.items in
     let reply = c.in_ok-reply.reply in
-    let happens = subst (λ ev. Happens ev now (get_or items c.loop-event.event-index (event.Claim 0)) reply new) (ap (λ (k : CoreState _ _ _). eval (g.L.Logic.step_of k.logic) k.justs k.tacs) c.loop-event.invariant.same) c.in_ok-reply.ensures.reply in
+    let happens = subst (λ ev. Happens ev now (get_or items c.loop-event.event-index (event.Claim 0)) reply new) (ap (λ (k : CoreState _ _ _). eval g.L.Logic.meaning k.problem) c.loop-event.invariant.same) c.in_ok-reply.ensures.reply in
     record {
       ready = c.in_ok-reply.ensures.ready;
       same = c.in_ok-reply.ensures.same ∙ ap (λ (k : CoreState _ _ _). moved k after.machine) c.loop-event.invariant.same;
@@ -63,68 +63,67 @@ pub returns-clause-trace : goal.returns-clause-trace
 returns-clause-trace g c =
     let problem = c.args.problem.now in
     let work = c.args.work in
-    let each = eval (g.L.Logic.step_of problem.logic.now) problem.justs problem.tacs in
+    let each = eval g.L.Logic.meaning problem in
     let core = c.loop-event.session.core in
-    let rounds = subst (λ ev. Rounds ev core.machine c.in_ok-outcome.outcome) (ap (λ (k : CoreState _ _ _). eval (g.L.Logic.step_of k.logic) k.justs k.tacs) c.loop-event.invariant.same) c.in_ok-outcome.ensures in
+    let rounds = subst (λ ev. Rounds ev core.machine c.in_ok-outcome.outcome) (ap (λ (k : CoreState _ _ _). eval g.L.Logic.meaning k.problem) c.loop-event.invariant.same) c.in_ok-outcome.ensures in
     let past : length c.as_slice-event-items.result.now ≤ c.loop-event.event-index = omega arith in
     let trace : IsTrace each work c.args.events.now c.loop-event.replies c.in_ok-outcome.outcome =
     whole_trace each work (world core.machine c.loop-event.session.workers.items) c.args.events.now c.as_slice-event-items.result.now c.loop-event.replies c.loop-event.event-index c.in_ok-outcome.outcome
     c.as_slice-event-items.ensures past c.loop-event.invariant.onward rounds in
     trace
 
-pub returns-clause-outcome : goal.returns-clause-outcome
-returns-clause-outcome g c =
-    let problem = c.args.problem.now in
-    let work = c.args.work in
-    let each = eval (g.L.Logic.step_of problem.logic.now) problem.justs problem.tacs in
-    let core = c.loop-event.session.core in
-    let rounds = subst (λ ev. Rounds ev core.machine c.in_ok-outcome.outcome) (ap (λ (k : CoreState _ _ _). eval (g.L.Logic.step_of k.logic) k.justs k.tacs) c.loop-event.invariant.same) c.in_ok-outcome.ensures in
-    let past : length c.as_slice-event-items.result.now ≤ c.loop-event.event-index = omega arith in
-    let trace : IsTrace each work c.args.events.now c.loop-event.replies c.in_ok-outcome.outcome =
-    whole_trace each work (world core.machine c.loop-event.session.workers.items) c.args.events.now c.as_slice-event-items.result.now c.loop-event.replies c.loop-event.event-index c.in_ok-outcome.outcome
-    c.as_slice-event-items.ensures past c.loop-event.invariant.onward rounds in
-    let is : c.in_ok-outcome.outcome ≡ each work = trace_gives_eval each work c.args.events.now c.loop-event.replies c.in_ok-outcome.outcome trace in
-    is
-
 pub returns-clause-relation : goal.returns-clause-relation
 returns-clause-relation g c =
     let problem = c.args.problem.now in
     let work = c.args.work in
-    let each = eval (g.L.Logic.step_of problem.logic.now) problem.justs problem.tacs in
+    let each = eval g.L.Logic.meaning problem in
     let core = c.loop-event.session.core in
-    let rounds = subst (λ ev. Rounds ev core.machine c.in_ok-outcome.outcome) (ap (λ (k : CoreState _ _ _). eval (g.L.Logic.step_of k.logic) k.justs k.tacs) c.loop-event.invariant.same) c.in_ok-outcome.ensures in
+    let rounds = subst (λ ev. Rounds ev core.machine c.in_ok-outcome.outcome) (ap (λ (k : CoreState _ _ _). eval g.L.Logic.meaning k.problem) c.loop-event.invariant.same) c.in_ok-outcome.ensures in
     let past : length c.as_slice-event-items.result.now ≤ c.loop-event.event-index = omega arith in
     let trace : IsTrace each work c.args.events.now c.loop-event.replies c.in_ok-outcome.outcome =
     whole_trace each work (world core.machine c.loop-event.session.workers.items) c.args.events.now c.as_slice-event-items.result.now c.loop-event.replies c.loop-event.event-index c.in_ok-outcome.outcome
     c.as_slice-event-items.ensures past c.loop-event.invariant.onward rounds in
     let is : c.in_ok-outcome.outcome ≡ each work = trace_gives_eval each work c.args.events.now c.loop-event.replies c.in_ok-outcome.outcome trace in
-    let relation = subst (λ o. Evals (g.L.Logic.step_of problem.logic.now) problem.justs problem.tacs work o) (sym is)
-    (evals_in (g.L.Logic.step_of problem.logic.now) problem.justs (length problem.justs) 0 problem.tacs work.tac.0 work.left (rows_of (length problem.justs) problem.tacs problem.fits) c.requires.work.tac work.fuel work.goal) in
+    let relation = subst (λ o. Evals g.L.Logic.meaning problem work o) (sym is) (eval_allowed g.L.Logic.meaning problem c.known.ensures work c.requires.work.tac) in
     relation
 
 pub returns-clause-valid : goal.returns-clause-valid
 returns-clause-valid g c =
     let problem = c.args.problem.now in
     let work = c.args.work in
-    let each = eval (g.L.Logic.step_of problem.logic.now) problem.justs problem.tacs in
+    let each = eval g.L.Logic.meaning problem in
     let core = c.loop-event.session.core in
-    let rounds = subst (λ ev. Rounds ev core.machine c.in_ok-outcome.outcome) (ap (λ (k : CoreState _ _ _). eval (g.L.Logic.step_of k.logic) k.justs k.tacs) c.loop-event.invariant.same) c.in_ok-outcome.ensures in
+    let rounds = subst (λ ev. Rounds ev core.machine c.in_ok-outcome.outcome) (ap (λ (k : CoreState _ _ _). eval g.L.Logic.meaning k.problem) c.loop-event.invariant.same) c.in_ok-outcome.ensures in
     let past : length c.as_slice-event-items.result.now ≤ c.loop-event.event-index = omega arith in
     let trace : IsTrace each work c.args.events.now c.loop-event.replies c.in_ok-outcome.outcome =
     whole_trace each work (world core.machine c.loop-event.session.workers.items) c.args.events.now c.as_slice-event-items.result.now c.loop-event.replies c.loop-event.event-index c.in_ok-outcome.outcome
     c.as_slice-event-items.ensures past c.loop-event.invariant.onward rounds in
     let is : c.in_ok-outcome.outcome ≡ each work = trace_gives_eval each work c.args.events.now c.loop-event.replies c.in_ok-outcome.outcome trace in
-    let relation = subst (λ o. Evals (g.L.Logic.step_of problem.logic.now) problem.justs problem.tacs work o) (sym is)
-    (evals_in (g.L.Logic.step_of problem.logic.now) problem.justs (length problem.justs) 0 problem.tacs work.tac.0 work.left (rows_of (length problem.justs) problem.tacs problem.fits) c.requires.work.tac work.fuel work.goal) in
-    sound_in (g.L.Logic.step_of problem.logic.now) problem.justs 0 problem.tacs work.tac.0 work.left work.fuel work.goal c.in_ok-outcome.outcome relation
+    let relation = subst (λ o. Evals g.L.Logic.meaning problem work o) (sym is) (eval_allowed g.L.Logic.meaning problem c.known.ensures work c.requires.work.tac) in
+    evals_valid g.L.Logic.meaning problem work c.in_ok-outcome.outcome relation
+
+pub returns-clause-good : goal.returns-clause-good
+returns-clause-good g c =
+    let problem = c.args.problem.now in
+    let work = c.args.work in
+    let each = eval g.L.Logic.meaning problem in
+    let core = c.loop-event.session.core in
+    let rounds = subst (λ ev. Rounds ev core.machine c.in_ok-outcome.outcome) (ap (λ (k : CoreState _ _ _). eval g.L.Logic.meaning k.problem) c.loop-event.invariant.same) c.in_ok-outcome.ensures in
+    let past : length c.as_slice-event-items.result.now ≤ c.loop-event.event-index = omega arith in
+    let trace : IsTrace each work c.args.events.now c.loop-event.replies c.in_ok-outcome.outcome =
+    whole_trace each work (world core.machine c.loop-event.session.workers.items) c.args.events.now c.as_slice-event-items.result.now c.loop-event.replies c.loop-event.event-index c.in_ok-outcome.outcome
+    c.as_slice-event-items.ensures past c.loop-event.invariant.onward rounds in
+    let is : c.in_ok-outcome.outcome ≡ each work = trace_gives_eval each work c.args.events.now c.loop-event.replies c.in_ok-outcome.outcome trace in
+    let relation = subst (λ o. Evals g.L.Logic.meaning problem work o) (sym is) (eval_allowed g.L.Logic.meaning problem c.known.ensures work c.requires.work.tac) in
+    goals_good g.L.Logic.meaning problem (g.met.L.Logic.lawful problem.logic) c.known.ensures work c.in_ok-outcome.outcome c.requires.work.good relation
 
 pub returns-clause-length : goal.returns-clause-length
 returns-clause-length g c =
     let problem = c.args.problem.now in
     let work = c.args.work in
-    let each = eval (g.L.Logic.step_of problem.logic.now) problem.justs problem.tacs in
+    let each = eval g.L.Logic.meaning problem in
     let core = c.loop-event.session.core in
-    let rounds = subst (λ ev. Rounds ev core.machine c.in_ok-outcome.outcome) (ap (λ (k : CoreState _ _ _). eval (g.L.Logic.step_of k.logic) k.justs k.tacs) c.loop-event.invariant.same) c.in_ok-outcome.ensures in
+    let rounds = subst (λ ev. Rounds ev core.machine c.in_ok-outcome.outcome) (ap (λ (k : CoreState _ _ _). eval g.L.Logic.meaning k.problem) c.loop-event.invariant.same) c.in_ok-outcome.ensures in
     let past : length c.as_slice-event-items.result.now ≤ c.loop-event.event-index = omega arith in
     let trace : IsTrace each work c.args.events.now c.loop-event.replies c.in_ok-outcome.outcome =
     whole_trace each work (world core.machine c.loop-event.session.workers.items) c.args.events.now c.as_slice-event-items.result.now c.loop-event.replies c.loop-event.event-index c.in_ok-outcome.outcome

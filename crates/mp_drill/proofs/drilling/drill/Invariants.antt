@@ -9,11 +9,11 @@ use Rattle.mp_drill.proofs.drilling.drill.Given as goal
 
 abbrev pub invariant-loop-event : goal.invariant-loop-event
 invariant-loop-event g l =
-    let each = eval (g.L.Logic.step_of l.problem.logic.now) l.problem.justs l.problem.tacs in
+    let each = eval g.L.Logic.meaning l.problem in
     let now = world l.session.core.machine l.session.workers.items in
     record {
-      ready : IsReady g.L.Logic.good g.L.Logic.step_of l.session.core l.session.workers.items;
-      same : l.session.core ≡ started l.problem.logic.now l.problem.justs l.problem.tacs l.session.core.machine;
+      ready : IsReady g.L.Logic.meaning l.session.core l.session.workers.items;
+      same : l.session.core ≡ started l.problem l.session.core.machine;
       good : Good each l.fn.work now;
       onward : Onward each (first_world l.fn.work) l.event-items l.replies now l.event-index;
     }

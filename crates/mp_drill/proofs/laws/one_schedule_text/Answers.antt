@@ -1,9 +1,9 @@
+use Rattle.mp_words.specs.Texts.{one_pass}
 use Rattle.mp_words.proofs.Answering.{one_text}
-use Rattle.mp_drill.specs.ScheduleGrammar.{IsSchedule, StuckSchedule}
+use Rattle.mp_drill.specs.ScheduleGrammar.{schedule}
 use Rattle.mp_drill.specs.ScheduleStatics.{schedule_faults}
 use Rattle.mp_drill.specs.ScheduleValues.{schedule_of}
-use Rattle.mp_drill.proofs.OneSchedule.{one_schedule}
 use Rattle.mp_drill.proofs.laws.one_schedule_text.Goals as goal
 
 pub returns : goal.returns
-returns c = λ goals. one_text IsSchedule StuckSchedule (schedule_faults goals) schedule_of one_schedule
+returns c = λ goals. one_text schedule (one_pass (schedule_faults goals)) schedule_of

@@ -1,5 +1,5 @@
-use Rattle.mp_drill.proofs.Existence.{some_trace}
+use Rattle.mp_drill.proofs.Existence.{decide_work, some_trace}
 use Rattle.mp_drill.proofs.laws.some_trace.Goals as goal
 
 pub returns : goal.returns
-returns g c compare eval work events = some_trace eval compare work events
+returns g c logic eval work events = some_trace eval (decide_work (g.L.Logic.meaning logic) (g.met.L.Logic.lawful logic)) work events

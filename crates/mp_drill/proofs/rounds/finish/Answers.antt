@@ -1,6 +1,7 @@
-use Rattle.std.proofs.Common.{◌≡◌, Some, sym, ap, ◌∙◌}
+use Rattle.std.proofs.Common.{◌≡◌, sym, ap, ◌∙◌}
 use Rattle.mp_strategy.specs.Evaluation.{eval}
 use Rattle.mp_core.specs.declared.core_calls.Claimed.TheVariants as claimed
+use Rattle.mp_strategy.specs.declared.problem.ProblemState.{ProblemState}
 use Rattle.mp_core.specs.declared.state.CoreState.{CoreState}
 use Rattle.mp_core.specs.Cores.{moved}
 use Rattle.mp_core.specs.Machine.{next_for}
@@ -10,7 +11,7 @@ use Rattle.mp_drill.proofs.rounds.finish.Goals as goal
 
 pub loop-core-preserved : goal.loop-core-preserved
 loop-core-preserved g c =
-    let each = λ (k : CoreState _ _ _). eval (g.L.Logic.step_of k.logic) k.justs k.tacs in
+    let each = λ (k : CoreState _ _ _). eval g.L.Logic.meaning k.problem in
     let s = c.loop-core.core in
     let n = c.next_for_caller.new.self in
     let t = c.in-Ticket.ticket in
@@ -20,7 +21,7 @@ loop-core-preserved g c =
     let given : claimed.Ticket t ≡ (next_for s.machine).0 = sym c.in-Ticket.is ∙ c.in_ok-ticket.ensures.reply in
     let moves : n ≡ moved s (next_for s.machine).1 = c.in_ok-ticket.ensures.state in
     let after : n.machine ≡ (next_for s.machine).1 = ap (λ (k : CoreState _ _ _). k.machine) moves in
-    let value : p ≡ evaluated (each c.args.core) t = c.in_ok-parcel-in-Ticket.ensures.value ∙ ap (λ (k : CoreState _ _ _). evaluated (each k) t) (sym c.problem-problem.ensures) in
+    let value : p ≡ evaluated (each c.args.core) t = c.in_ok-parcel-in-Ticket.ensures.value ∙ ap (λ (q : ProblemState _ _). evaluated (eval g.L.Logic.meaning q) t) c.problem-problem.ensures in
     record {
       same = c.in_ok-deliver-in-Ticket.ensures.same ∙ ap (λ (k : CoreState _ _ _). moved k new.machine) (moves ∙ ap (λ (k : CoreState _ _ _). moved k (next_for s.machine).1) c.loop-core.invariant.same);
       sound = c.in_ok-deliver-in-Ticket.ensures.sound (c.in_ok-ticket.ensures.sound c.loop-core.invariant.sound);
@@ -30,24 +31,22 @@ loop-core-preserved g c =
 
 pub returns-in-Finished : goal.returns-in-Finished
 returns-in-Finished g c =
-    let each = λ (k : CoreState _ _ _). eval (g.L.Logic.step_of k.logic) k.justs k.tacs in
+    let each = λ (k : CoreState _ _ _). eval g.L.Logic.meaning k.problem in
     let s = c.loop-core.core in
     let n = c.next_for_caller.new.self in
     let given : claimed.Finished ≡ (next_for s.machine).0 = sym c.in-Finished.is ∙ c.in_ok-ticket.ensures.reply in
     let after : n.machine ≡ (next_for s.machine).1 = ap (λ (k : CoreState _ _ _). k.machine) c.in_ok-ticket.ensures.state in
-    if_ok_by (λ o. o ≡ c.in-Some.outcome.now) (λ o. Rounds (each c.args.core) c.args.core.machine o) c.copy_outcome.result
-    (λ o e. c.loop-core.invariant.onward o (at_finish (each c.args.core) s.machine n.machine o given after (ap (λ q. Some q) e ∙ c.in-Some.ensures.answer)))
-    c.copy_outcome.ensures
+    c.loop-core.invariant.onward c.in-Some.outcome (at_finish (each c.args.core) s.machine n.machine c.in-Some.outcome given after c.in-Some.ensures.answer)
 
 pub returns-in-Spent : goal.returns-in-Spent
 returns-in-Spent g c =
-    let each = λ (k : CoreState _ _ _). eval (g.L.Logic.step_of k.logic) k.justs k.tacs in
+    let each = λ (k : CoreState _ _ _). eval g.L.Logic.meaning k.problem in
     let s = c.loop-core.core in
     let n = c.next_for_caller.new.self in
     let given : claimed.Spent ≡ (next_for s.machine).0 = sym c.in-Spent.is ∙ c.in_ok-ticket.ensures.reply in
     let after : n.machine ≡ (next_for s.machine).1 = ap (λ (k : CoreState _ _ _). k.machine) c.in_ok-ticket.ensures.state in
     let w = c.work.result.now in
     let problem = c.problem-problem.result.now in
-    if_ok_by (λ o. o ≡ eval (g.L.Logic.step_of problem.logic.now) problem.justs problem.tacs w) (λ o. Rounds (each c.args.core) c.args.core.machine o) c.evaluate.result
-    (λ o e. c.loop-core.invariant.onward o (at_spent (each c.args.core) s.machine n.machine w o given after c.work.ensures (e ∙ ap (λ (k : CoreState _ _ _). each k w) (sym c.problem-problem.ensures))))
+    if_ok_by (λ o. o ≡ eval g.L.Logic.meaning problem w) (λ o. Rounds (each c.args.core) c.args.core.machine o) c.evaluate.result
+    (λ o e. c.loop-core.invariant.onward o (at_spent (each c.args.core) s.machine n.machine w o given after c.work.ensures.value (e ∙ ap (λ (q : ProblemState _ _). eval g.L.Logic.meaning q w) c.problem-problem.ensures)))
     c.evaluate.ensures.value

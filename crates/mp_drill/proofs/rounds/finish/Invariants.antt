@@ -9,10 +9,10 @@ use Rattle.mp_drill.proofs.rounds.finish.Given as goal
 
 abbrev pub invariant-loop-core : goal.invariant-loop-core
 invariant-loop-core g l =
-    let each = eval (g.L.Logic.step_of l.fn.core.logic) l.fn.core.justs l.fn.core.tacs in
+    let each = eval g.L.Logic.meaning l.fn.core.problem in
     record {
       same : l.core ≡ moved l.fn.core l.core.machine;
-      sound : IsSoundCore g.L.Logic.good g.L.Logic.step_of l.core;
+      sound : IsSoundCore g.L.Logic.meaning l.core;
       work : l.core.machine.work ≡ l.fn.core.machine.work;
       onward : (o : Outcome _) → Rounds each l.core.machine o → Rounds each l.fn.core.machine o;
     }

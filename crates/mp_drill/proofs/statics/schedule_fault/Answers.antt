@@ -1,22 +1,22 @@
-use Rattle.std.proofs.Common.{[], ap, take, ◌∙◌}
+use Rattle.std.proofs.Common.{None, refl, ap, ◌∙◌}
+use Rattle.std.specs.List.{flat_map}
+use Rattle.mp_words.specs.declared.fail.TextWhy.TheVariants as why
 use Rattle.mp_words.specs.Faults.{least_from}
-use Rattle.mp_words.proofs.MetWalks.{met_next}
+use Rattle.mp_words.specs.Seconds.{second_faults}
+use Rattle.mp_words.proofs.FaultParts.{flat_next, two_parts}
 use Rattle.mp_drill.specs.declared.raw.RawSection.{RawSection}
-use Rattle.mp_drill.specs.ScheduleStatics.{events_faults}
-use Rattle.mp_drill.proofs.ScheduleFaults.{names_of, sections_next}
+use Rattle.mp_drill.specs.ScheduleStatics.{section_faults}
 use Rattle.mp_drill.proofs.statics.schedule_fault.Goals as goal
+
+pub loop-raw-init : goal.loop-raw-init
+loop-raw-init c =
+    let goals = c.args.goals.now in
+    let ss = c.args.raws.now in
+    let seconds = second_faults (λ (s : RawSection). s.goal) why.Taken in
+    let held = c.in_ok-held.ensures ∙ ap (λ xs. least_from None (seconds xs)) c.as_slice.ensures in
+    ap (λ xs. least_from c.in_ok-held.held (flat_map (section_faults goals) xs)) c.as_slice-raw-items.ensures ∙ two_parts None c.in_ok-held.held _ (seconds ss) (flat_map (section_faults goals) ss) held refl
 
 pub loop-raw-preserved : goal.loop-raw-preserved
 loop-raw-preserved c =
-    let ss = c.as_slice-raw-items.result.now in
-    let i = c.loop-raw.raw-index in
-    let s = c.raw-item.result in
-    let lt = c.loop-raw-test.true in
-    let is = c.raw-item.is in
-    record {
-      known = met_next (λ (x : RawSection). x.goal.name) ss i s lt is c.args.goals.now c.loop-raw.known c.check_name.new.known c.loop-raw.invariant.known c.in_ok-held.ensures.known;
-      taken = met_next (λ (x : RawSection). x.goal.name) ss i s lt is [] c.loop-raw.taken c.check_name.new.taken c.loop-raw.invariant.taken c.in_ok-held.ensures.taken;
-      found = sections_next ss i s lt is c.args.goals.now c.loop-raw.held c.in_ok-held.held c.check_events-held.result _
-          (c.in_ok-held.ensures.fault c.args.goals.now (names_of (take i ss)) c.loop-raw.invariant.known c.loop-raw.invariant.taken)
-          (c.check_events-held.ensures ∙ ap (λ es. least_from c.in_ok-held.held (events_faults es)) c.as_slice.ensures) c.loop-raw.invariant.found;
-    }
+    let goals = c.args.goals.now in
+    flat_next (section_faults goals) c.as_slice-raw-items.result.now c.loop-raw.raw-index c.raw-item.result c.loop-raw.held c.check_section-held.result _ c.loop-raw-test.true c.raw-item.is (c.check_section-held.ensures goals c.in_ok-names.ensures) c.loop-raw.invariant

@@ -1,7 +1,7 @@
 use Rattle.std.proofs.Common.{◌≡◌, ◌+◌, drop}
 use Rattle.std.specs.List.{prefix_len}
-use Rattle.mp_lex.specs.Bytes.{is_word}
+use Rattle.mp_lex.specs.Bytes.{is_word_byte}
 use Rattle.mp_lex.proofs.front.word_len.Given as goal
 
 abbrev pub invariant-loop-i : goal.invariant-loop-i
-invariant-loop-i l = l.i + prefix_len is_word (drop l.i l.bytes) ≡ prefix_len is_word l.bytes
+invariant-loop-i l = l.i + prefix_len is_word_byte (drop l.i l.bytes) ≡ prefix_len is_word_byte l.bytes

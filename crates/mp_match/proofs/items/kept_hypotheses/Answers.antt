@@ -13,12 +13,12 @@ overflow_add-scope c = let k = here_narrow _ _ _ _ _ _ _ c.hyp-item.result (omeg
 
 pub returns-in_default : goal.returns-in_default
 returns-in_default c =
-    Keeping-fails _ _ _ _ _ _ _ c.hyp-item.result (omega arith) c.hyp-item.is c.loop-hyp.invariant (rw (c.as_slice.ensures, c.in_default.is) at c.in_ok-term.ensures.inverse)
+    Keeping-fails _ _ _ _ _ _ _ c.hyp-item.result (omega arith) c.hyp-item.is c.loop-hyp.invariant (rw (c.in_default.is) at c.in_ok-term.ensures.inverse)
 
 pub loop-hyp-preserved : goal.loop-hyp-preserved
 loop-hyp-preserved c =
-    Keeping-next _ _ _ _ _ _ _ c.hyp-item.result (omega arith) c.hyp-item.is c.loop-hyp.invariant c.in-Some.term _ _ (rw (c.as_slice.ensures, c.in-Some.is) at c.in_ok-term.ensures.inverse)
-    c.in_default-push.ensures.ok c.in_default-push-2.ensures.ok
+    Keeping-next _ _ _ _ _ _ _ c.hyp-item.result (omega arith) c.hyp-item.is c.loop-hyp.invariant c.in-Some.term _ _ (rw (c.in-Some.is) at c.in_ok-term.ensures.inverse)
+    c.in_default-push.ensures.ok c.in_ok-push.ensures
 
 pub returns : goal.returns
 returns c = Keeping-end _ _ _ _ _ _ c.loop-hyp.hyp-index (omega arith) c.loop-hyp.invariant

@@ -1,5 +1,5 @@
 use Rattle.std.proofs.Common.{◌-◌, arith}
-use Rattle.mp_schema.proofs.Ranges.{level-bound}
+use Rattle.mp_term.proofs.Ranges.{level-bound}
 use Rattle.mp_match.proofs.levels.level_at.Goals as goal
 
 pub returns-else-level-named : goal.returns-else-level-named

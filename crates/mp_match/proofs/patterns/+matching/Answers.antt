@@ -73,15 +73,15 @@ match_subs-match_within-requires t c =
 
 pub match_within-match_meta-requires-clause-distinct : goal.match_within-match_meta-requires-clause-distinct
 match_within-match_meta-requires-clause-distinct t c =
-    rw (c.as_slice-in-Meta.ensures, c.in_ok-levels-in-Meta.ensures)
+    rw c.in_ok-levels-in-Meta.ensures
     (meta_distinct c.args.place.now c.args.scope c.in-Meta.name c.in-Meta.ctxs c.in-Meta.args c.args.p.now c.in-Meta.is c.requires.outer c.requires.fine c.requires.known c.requires.usable)
 
 pub match_within-match_meta-requires-clause-below : goal.match_within-match_meta-requires-clause-below
 match_within-match_meta-requires-clause-below t c =
-    rw (c.as_slice-in-Meta.ensures, c.in_ok-levels-in-Meta.ensures)
+    rw c.in_ok-levels-in-Meta.ensures
     (meta_below c.args.place.now c.args.scope c.in-Meta.name c.in-Meta.ctxs c.in-Meta.args c.args.p.now c.in-Meta.is c.requires.outer c.requires.fine c.requires.known c.requires.usable)
 
 pub match_within-returns-in_ok-levels-in-Meta : goal.match_within-returns-in_ok-levels-in-Meta
 match_within-returns-in_ok-levels-in-Meta t c =
     rw (meta_is c.args.place.now c.args.scope c.in-Meta.name c.in-Meta.ctxs c.in-Meta.args c.args.p.now c.args.t.now c.args.found.now c.in-Meta.is)
-    (rw (c.as_slice-in-Meta.ensures, c.in_ok-levels-in-Meta.ensures) at c.match_meta.ensures)
+    (rw c.in_ok-levels-in-Meta.ensures at c.match_meta.ensures)

@@ -2,7 +2,7 @@ use Rattle.std.proofs.Common.{sym, refl, ap, length, arith}
 use Rattle.mp_match.proofs.Kept.{widest_from-ge}
 use Rattle.mp_match.proofs.SequentSizes.{given-two, sizes-counted}
 use Rattle.mp_match.proofs.Ended.{end-usable, end-known, end-fine_within, end-scoped, end-narrow}
-use Rattle.mp_match.proofs.OtherOperators.{no-match}
+use Rattle.mp_match.proofs.OtherShapes.{no-match}
 use Rattle.mp_match.proofs.sequents.sequent_found.Goals as goal
 
 pub overflow_cast-hyps : goal.overflow_cast-hyps
@@ -51,5 +51,5 @@ match_within-requires-clause-narrow c =
     let walked = rw (c.as_slice-hyps.ensures, c.as_slice.ensures, c.in-Some-2.is) at c.in_ok-walk.ensures in
     end-narrow c.args.concl.now c.args.goal.now c.requires.conclusion c.requires.scoped c.requires.narrow c.in-Some.sizes counted c.in-Some-2.walk (sym walked)
 
-pub returns-then-not-has_head_of : goal.returns-then-not-has_head_of
-returns-then-not-has_head_of c = sym (no-match c.args.concl.now c.args.first c.args.goal.now (c.has_head_of.ensures c.if-not-has_head_of.true))
+pub returns-then-not-has_shape_of : goal.returns-then-not-has_shape_of
+returns-then-not-has_shape_of c = sym (no-match c.args.concl.now c.args.first c.args.goal.now (c.has_shape_of.ensures c.if-not-has_shape_of.true))

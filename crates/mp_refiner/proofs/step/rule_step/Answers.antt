@@ -1,5 +1,5 @@
-use Rattle.mp_refiner.specs.laws.Asked.{asked}
-use Rattle.mp_refiner.proofs.Stepping.{match_made, none_answer, bad_answer, usable_needs, new_needs, closed_new, ready_premises, step_answer, answer_good, answer_narrow}
+use Rattle.mp_refiner.proofs.Asked.{asked}
+use Rattle.mp_refiner.proofs.Stepping.{match_made, none_answer, bad_answer, usable_needs, new_needs, closed_new, ready_premises, step_answer}
 use Rattle.mp_refiner.proofs.step.rule_step.Goals as goal
 
 pub match_sequent-requires-clause-conclusion : goal.match_sequent-requires-clause-conclusion
@@ -54,20 +54,13 @@ returns-in-Ok-true c =
     let g = c.args.given.now in
     let q = c.args.goal.now in
     let a = asked r c.args.first g q c.requires.allowed c.requires.good in
-    let answer =
     step_answer r c.args.first g q c.requires.rule c.requires.allowed a c.in-Some.inst
     (match_made r.concl c.args.first q c.in-Ok.matched c.in-Some.inst c.in-Some.is c.in-Ok.ensures.instance c.in-Ok.ensures.covers c.in-Ok.ensures.spread) c.as_slice.result.now c.as_slice.ensures
     c.give_all.new.inst c.as_slice-2.result.now c.as_slice-2.ensures c.in-Ok-true.field-0 c.in-Ok-true.ensures c.in-Ok-true.field-0-test
     c.as_slice-in-Ok-true.result.now c.as_slice-in-Ok-true.ensures c.build_kids.result c.build_kids.ensures
-    in
-    record {
-      answer = answer;
-      good = answer_good r c.args.first g q c.build_kids.result answer a;
-      narrow = answer_narrow r c.args.first g q c.build_kids.result answer;
-    }
 
-pub returns-in-Ok-false-clause-answer : goal.returns-in-Ok-false-clause-answer
-returns-in-Ok-false-clause-answer c =
+pub returns-in-Ok-false : goal.returns-in-Ok-false
+returns-in-Ok-false c =
     let r = c.args.rule.now in
     let g = c.args.given.now in
     let q = c.args.goal.now in
@@ -76,8 +69,8 @@ returns-in-Ok-false-clause-answer c =
     (match_made r.concl c.args.first q c.in-Ok.matched c.in-Some.inst c.in-Some.is c.in-Ok.ensures.instance c.in-Ok.ensures.covers c.in-Ok.ensures.spread) c.as_slice.result.now c.as_slice.ensures
     c.give_all.new.inst c.as_slice-2.result.now c.as_slice-2.ensures c.in-Ok-false.field-0 c.in-Ok-false.ensures c.in-Ok-false.field-0-test
 
-pub returns-in_default-matched-clause-answer : goal.returns-in_default-matched-clause-answer
-returns-in_default-matched-clause-answer c =
+pub returns-in_default-matched : goal.returns-in_default-matched
+returns-in_default-matched c =
     let r = c.args.rule.now in
     let g = c.args.given.now in
     let q = c.args.goal.now in

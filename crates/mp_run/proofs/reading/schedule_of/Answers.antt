@@ -6,17 +6,9 @@ use Rattle.mp_run.proofs.reading.schedule_of.Goals as goal
 
 pub returns-in-Ok-clause-calls : goal.returns-in-Ok-clause-calls
 returns-in-Ok-clause-calls g c =
-    let h = c.in_ok-source.ensures.calls in (
-      h.0,
-      h.1,
-      read_says Schedule (Named c.args.name.now) (ReadsSchedule c.args.goals.now c.args.names.now) h.0 c.in_ok-source.source c.as_slice.result.now c.in-Ok.sections c.read_schedule.new.names h.2 c.as_slice.ensures c.in-Ok.ensures.reads,
-    )
+    read_says g.H.Shelf.reads Schedule (Named c.args.name.now) (ReadsSchedule c.args.goals.now c.args.names.now) c.args.shelf.now c.read_file.new.shelf c.in_ok-source.source c.as_slice.result.now c.in-Ok.sections c.read_schedule.new.names c.in_ok-source.ensures.calls c.as_slice.ensures c.in-Ok.ensures.reads
 
 pub returns-clause-calls : goal.returns-clause-calls
 returns-clause-calls g c =
-    let h = c.in_ok-source.ensures.calls in (
-      h.0,
-      h.1,
-      read_refused Schedule (Named c.args.name.now) (ReadsSchedule c.args.goals.now c.args.names.now) h.0 c.in_ok-source.source c.as_slice.result.now c.read_schedule.new.names c.in-Err.fail c.stop_of.result h.2 c.as_slice.ensures
-          c.in-Err.ensures.reads c.stop_of.ensures,
-    )
+    read_refused g.H.Shelf.reads Schedule (Named c.args.name.now) (ReadsSchedule c.args.goals.now c.args.names.now) c.args.shelf.now c.read_file.new.shelf c.in_ok-source.source c.as_slice.result.now c.read_schedule.new.names c.in-Err.fail c.stop_of.result c.in_ok-source.ensures.calls c.as_slice.ensures
+    c.in-Err.ensures.reads c.stop_of.ensures

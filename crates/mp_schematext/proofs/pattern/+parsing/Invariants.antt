@@ -1,8 +1,8 @@
-use Rattle.std.proofs.Common.{◌++◌, ◌*◌, ◌+◌, ◌≤◌, List, length}
-use Rattle.mp_words.specs.declared.word.Word.{Word}
-use Rattle.mp_schematext.specs.declared.raw.RawPattern.{RawPattern}
-use Rattle.mp_schematext.specs.declared.raw.RawPatternBound.{RawPatternBound}
-use Rattle.mp_schematext.specs.Grammar.{AreArgs, StuckArgs, ArePatternBounds, StuckPatternBounds}
+use Rattle.std.proofs.Common.{◌*◌, ◌+◌, ◌≤◌, length}
+use Rattle.mp_words.specs.declared.word.Mark.TheVariants as mark
+use Rattle.mp_words.specs.Fronts.{is_mark}
+use Rattle.mp_words.proofs.Steps.{RowLeft}
+use Rattle.mp_schematext.specs.Grammar.{pattern_bound_by, pattern}
 use Rattle.mp_schematext.proofs.pattern.+parsing.Given as goal
 
 abbrev pub decreases-parse_pattern : goal.decreases-parse_pattern
@@ -26,11 +26,9 @@ decreases-parse_arguments l = 3 * length l.words.now
 abbrev pub decreases-parse_args-loop-read : goal.decreases-parse_args-loop-read
 decreases-parse_args-loop-read l = length l.at
 
--- what completes the list from here completes it from the start
 abbrev pub invariant-parse_args-loop-read : goal.invariant-parse_args-loop-read
 invariant-parse_args-loop-read l = record {
-  goes_on : (others : List RawPattern) (rest : List Word) → AreArgs others l.at rest → AreArgs (l.args ++ others) l.words rest;
-  stuck : (rest : List Word) → StuckArgs l.at rest → StuckArgs l.words rest;
+  left : RowLeft pattern (is_mark mark.Semicolon) (is_mark mark.CloseBracket) l.args l.at l.words;
   within : length l.at ≤ length l.words;
 }
 
@@ -39,7 +37,6 @@ decreases-parse_bounds-loop-read l = length l.at
 
 abbrev pub invariant-parse_bounds-loop-read : goal.invariant-parse_bounds-loop-read
 invariant-parse_bounds-loop-read l = record {
-  goes_on : (others : List RawPatternBound) (rest : List Word) → ArePatternBounds others l.at rest → ArePatternBounds (l.subs ++ others) l.words rest;
-  stuck : (rest : List Word) → StuckPatternBounds l.at rest → StuckPatternBounds l.words rest;
+  left : RowLeft (pattern_bound_by pattern) (is_mark mark.Semicolon) (is_mark mark.CloseBrace) l.subs l.at l.words;
   within : length l.at ≤ length l.words;
 }

@@ -1,7 +1,7 @@
 use Rattle.std.proofs.Common.{◌≡◌, ◌++◌, map, take, IsTrue}
 use Rattle.std.specs.List.{list_all}
 use Rattle.mp_theory.specs.Allowed.{is_allowed}
-use Rattle.mp_scripttext.specs.Values.{just_of}
+use Rattle.mp_steptext.specs.Terms.{just_of}
 use Rattle.mp_scripttext.proofs.StepLists.{steps_in}
 use Rattle.mp_scripttext.proofs.just.+justs.Given as goal
 

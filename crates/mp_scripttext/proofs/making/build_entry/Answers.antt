@@ -1,5 +1,6 @@
 use Rattle.std.proofs.Common.{◌≡◌, ◌≤◌, ap, sym, subst, ◌∙◌}
 use Rattle.std.specs.List.{list_all}
+use Rattle.mp_strategy.specs.declared.limits.TheConstants.{MOST_FUEL}
 use Rattle.mp_theory.specs.Allowed.{is_allowed}
 use Rattle.mp_scripttext.specs.declared.script.Entry.{Entry}
 use Rattle.mp_scripttext.specs.Entries.{IsGoodEntry}
@@ -18,10 +19,10 @@ table-requires c = (entry_keeps c.args.theory.now c.args.raw.now c.requires.faul
 
 pub returns-clause-good : goal.returns-clause-good
 returns-clause-good c =
-    let rules = c.args.theory.now in
+    let t = c.args.theory.now in
     let raw = c.args.raw.now in
     let entry : Entry = record { name = raw.name.name; goal = c.in_ok-goal.goal; fuel = c.build_fuel.result; justs = c.in_ok-justs.justs; tacs = c.in_ok-tacs.tacs } in
-    let value : entry ≡ entry_of rules raw =
+    let value : entry ≡ entry_of t raw =
     (λ i. record { name = raw.name.name; goal = c.in_ok-goal.ensures i; fuel = c.build_fuel.ensures.value i; justs = c.in_ok-justs.ensures.value i; tacs = c.in_ok-tacs.ensures i }) in
-    let allowed = ap (list_all (is_allowed rules)) (sym c.in_ok-justs.ensures.value) ∙ c.in_ok-justs.ensures.allowed in
-    subst (IsGoodEntry rules) (sym value) (entry_good rules raw (entry_keeps rules raw c.requires.faultless) allowed (subst (λ n. n ≤ 400) c.build_fuel.ensures.value c.build_fuel.ensures.few))
+    let allowed = ap (list_all (is_allowed t)) (sym c.in_ok-justs.ensures.value) ∙ c.in_ok-justs.ensures.allowed in
+    subst (IsGoodEntry t) (sym value) (entry_good t raw (entry_keeps t raw c.requires.faultless) allowed (subst (λ n. n ≤ MOST_FUEL) c.build_fuel.ensures.value c.build_fuel.ensures.few))

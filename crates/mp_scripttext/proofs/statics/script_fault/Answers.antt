@@ -1,17 +1,21 @@
-use Rattle.std.proofs.Common.{[]}
-use Rattle.mp_words.proofs.MetWalks.{met_next}
+use Rattle.std.proofs.Common.{None, refl, ap, sym, ◌∙◌}
+use Rattle.std.specs.List.{flat_map}
+use Rattle.mp_words.specs.declared.fail.TextWhy.TheVariants as why
+use Rattle.mp_words.specs.Faults.{least_from}
+use Rattle.mp_words.specs.Seconds.{second_faults}
+use Rattle.mp_words.proofs.FaultParts.{flat_next, two_parts}
 use Rattle.mp_scripttext.specs.declared.raw.RawEntry.{RawEntry}
-use Rattle.mp_scripttext.proofs.EntryWalks.{entries_next}
+use Rattle.mp_scripttext.specs.Statics.{entry_faults}
 use Rattle.mp_scripttext.proofs.statics.script_fault.Goals as goal
+
+pub loop-raw-init : goal.loop-raw-init
+loop-raw-init c =
+    let t = c.args.theory.now in
+    let es = c.args.raws.now in
+    let seconds = second_faults (λ (e : RawEntry). e.name) why.Taken in
+    let held = c.in_ok-held.ensures ∙ ap (λ xs. least_from None (seconds xs)) c.as_slice.ensures in
+    ap (λ xs. least_from c.in_ok-held.held (flat_map (entry_faults t) xs)) c.as_slice-raw-items.ensures ∙ two_parts None c.in_ok-held.held _ (seconds es) (flat_map (entry_faults t) es) held refl
 
 pub loop-raw-preserved : goal.loop-raw-preserved
 loop-raw-preserved c =
-    let es = c.as_slice-raw-items.result.now in
-    let i = c.loop-raw.raw-index in
-    let e = c.raw-item.result in
-    let met = c.loop-raw.names in
-    let before = c.loop-raw.invariant.met in
-    record {
-      met = met_next (λ (x : RawEntry). x.name.name) es i e c.loop-raw-test.true c.raw-item.is [] met c.meet.new.self before c.in_ok-is_taken.ensures.met;
-      found = entries_next es i e c.loop-raw-test.true c.raw-item.is met before c.args.theory.now c.in_ok-is_taken.is_taken c.loop-raw.held c.check_taken-held.result c.in_ok-held.held _ c.in_ok-is_taken.ensures.known c.check_taken-held.ensures c.in_ok-held.ensures c.loop-raw.invariant.found;
-    }
+    flat_next (entry_faults c.args.theory.now) c.as_slice-raw-items.result.now c.loop-raw.raw-index c.raw-item.result c.loop-raw.held c.in_ok-held-2.held _ c.loop-raw-test.true c.raw-item.is c.in_ok-held-2.ensures c.loop-raw.invariant

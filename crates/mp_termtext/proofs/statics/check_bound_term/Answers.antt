@@ -11,5 +11,5 @@ returns c =
     let raw = c.args.raw.now in
     let n = raw_size_of raw.body in
     c.check_size.ensures n (sym c.raw_size.ensures)
-    ∙ ap (λ h. least_from h (fault_if (nat_lt 20000 n) c.args.left why.TooBig)) (c.in_ok-held.ensures.fault 1 refl ∙ ap (λ env. least_from c.args.held (bound_faults_of c.args.free raw env 1)) c.new-env.ensures.items)
-    ∙ sym (least_from_append c.args.held (bound_faults_of c.args.free raw [] 1) (fault_if (nat_lt 20000 n) c.args.left why.TooBig))
+    ∙ ap (λ h. least_from h (fault_if (nat_lt 20000 n) c.args.at why.TooBig)) (c.in_ok-held.ensures.fault 1 refl ∙ ap (λ env. least_from c.args.held (bound_faults_of c.args.free raw env 1)) c.new-env.ensures.items)
+    ∙ sym (least_from_append c.args.held (bound_faults_of c.args.free raw [] 1) (fault_if (nat_lt 20000 n) c.args.at why.TooBig))

@@ -1,7 +1,8 @@
-use Rattle.std.proofs.Common.{◌++◌, ◌*◌, ◌+◌, ◌≤◌, List, length}
-use Rattle.mp_words.specs.declared.word.Word.{Word}
-use Rattle.mp_termtext.specs.declared.raw.RawBound.{RawBound}
-use Rattle.mp_termtext.specs.Grammar.{AreBounds, StuckBounds}
+use Rattle.std.proofs.Common.{◌*◌, ◌+◌, ◌≤◌, length}
+use Rattle.mp_words.specs.declared.word.Mark.TheVariants as mark
+use Rattle.mp_words.specs.Fronts.{is_mark}
+use Rattle.mp_words.proofs.Steps.{RowLeft}
+use Rattle.mp_termtext.specs.Grammar.{bound_by, term}
 use Rattle.mp_termtext.proofs.syntax.+parsing.Given as goal
 
 abbrev pub decreases-parse_term : goal.decreases-parse_term
@@ -19,10 +20,8 @@ decreases-parse_subs l = 3 * length l.words.now
 abbrev pub decreases-parse_bounds-loop-read : goal.decreases-parse_bounds-loop-read
 decreases-parse_bounds-loop-read l = length l.at
 
--- what completes the list from here completes it from the start
 abbrev pub invariant-parse_bounds-loop-read : goal.invariant-parse_bounds-loop-read
 invariant-parse_bounds-loop-read l = record {
-  goes_on : (others : List RawBound) (rest : List Word) → AreBounds others l.at rest → AreBounds (l.subs ++ others) l.words rest;
-  stuck : (rest : List Word) → StuckBounds l.at rest → StuckBounds l.words rest;
+  left : RowLeft (bound_by term) (is_mark mark.Semicolon) (is_mark mark.CloseBrace) l.subs l.at l.words;
   within : length l.at ≤ length l.words;
 }

@@ -25,7 +25,7 @@ build_bound-overflow_cast-result t c =
 pub build_term-overflow_cast-result : goal.build_term-overflow_cast-result
 build_term-overflow_cast-result t c =
     let env = c.args.env.now.items in
-    let fits = level_fits c.args.free c.args.raw.now c.in-Var.name c.in-Var.numbered c.in-Var.left env c.in-Var.is c.requires.free c.requires.faultless in
+    let fits = level_fits c.args.free c.args.raw.now c.in-Var.name c.in-Var.numbered c.in-Var.at env c.in-Var.is c.requires.free c.requires.faultless in
     let level : c.unwrap_or-level.result ≡ unwrap_or (level_of c.args.free env c.in-Var.name c.in-Var.numbered) 0 =
     c.unwrap_or-level.ensures ∙ ap (λ o. unwrap_or o 0) (c.level_of.ensures ∙ ap (λ ns. level_of c.args.free ns c.in-Var.name c.in-Var.numbered) c.as_slice.ensures.value) in
     omega (arith, fits, level)
@@ -33,7 +33,7 @@ build_term-overflow_cast-result t c =
 pub build_term-loop-sub-init : goal.build_term-loop-sub-init
 build_term-loop-sub-init t c =
     let env = c.args.env.now.items in
-    let subs = subs_faultless c.args.free c.args.raw.now c.in-Op.name c.in-Op.params c.in-Op.subs c.in-Op.left env c.in-Op.is c.requires.faultless in
+    let subs = subs_faultless c.args.free c.args.raw.now c.in-Op.name c.in-Op.params c.in-Op.subs c.in-Op.at env c.in-Op.is c.requires.faultless in
     record {
       kept = refl;
       faultless = subst (λ ks. AreFaultless c.args.free ks env) (sym c.as_slice-sub-items.ensures) subs;
@@ -47,7 +47,7 @@ pub build_term-build_bound-requires : goal.build_term-build_bound-requires
 build_term-build_bound-requires t c =
     let both = first_faultless c.args.free c.as_slice-sub-items.result.now c.loop-sub.sub-index c.sub-item.result c.args.env.now.items c.loop-sub.env.items c.loop-sub-test.true c.sub-item.is c.loop-sub.invariant.kept c.loop-sub.invariant.faultless in
     let m = rw (sym c.sub-item.is) at (at_most bound_size.the_size c.as_slice-sub-items.result.now c.loop-sub.sub-index c.sub-item.result c.loop-sub-test.true) in
-    let w : most bound_size.the_size c.as_slice-sub-items.result.now < raw_size.the_size c.args.raw.now = rw (c.in-Op.is, c.as_slice-sub-items.ensures) (subs_below c.in-Op.name c.in-Op.params c.in-Op.subs c.in-Op.left) in
+    let w : most bound_size.the_size c.as_slice-sub-items.result.now < raw_size.the_size c.args.raw.now = rw (c.in-Op.is, c.as_slice-sub-items.ensures) (subs_below c.in-Op.name c.in-Op.params c.in-Op.subs c.in-Op.at) in
     (omega (arith, m, w, c.decreases), (c.requires.free, both.0))
 
 pub build_term-loop-sub-preserved : goal.build_term-loop-sub-preserved
@@ -68,4 +68,4 @@ build_term-returns-in_ok-subs-in-Op-clause-value t c =
     let n = c.in-Op.name in
     let built : c.loop-sub.built ≡ each_subterm_value (map (bound_value_of free) c.in-Op.subs) env = grind (arith, common_steps) in
     let whole = c.in_ok-subs-in-Op.ensures ∙ built in
-    ap (λ vs. term.Op n vs c.in_ok-subs-in-Op.subs) c.in_ok-params-in-Op.ensures ∙ ap (λ bs. term.Op n (map (λ p. p.value) c.in-Op.params) bs) whole ∙ sym (value-Op free n c.in-Op.params c.in-Op.subs c.in-Op.left env) ∙ ap (λ r. value_of free r env) (sym c.in-Op.is)
+    ap (λ vs. term.Op n vs c.in_ok-subs-in-Op.subs) c.in_ok-params-in-Op.ensures ∙ ap (λ bs. term.Op n (map (λ p. p.value) c.in-Op.params) bs) whole ∙ sym (value-Op free n c.in-Op.params c.in-Op.subs c.in-Op.at env) ∙ ap (λ r. value_of free r env) (sym c.in-Op.is)

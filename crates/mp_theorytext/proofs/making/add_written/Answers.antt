@@ -1,7 +1,14 @@
 use Rattle.std.proofs.Common.{ap, ◌∙◌, map}
 use Rattle.mp_theorytext.specs.Values.{schema_of}
-use Rattle.mp_theorytext.proofs.RulesMade.{no_schema_fault}
+use Rattle.mp_theorytext.proofs.Adding.{no_schema_fault}
+use Rattle.mp_theorytext.proofs.Narrow.{rule_concl, rule_premises}
 use Rattle.mp_theorytext.proofs.making.add_written.Goals as goal
+
+pub build_premises-requires : goal.build_premises-requires
+build_premises-requires c = record { faultless = rule_premises c.args.raw.now c.requires.faultless c.as_slice.result.now c.as_slice.ensures }
+
+pub build_schema-requires : goal.build_schema-requires
+build_schema-requires c = record { faultless = rule_concl c.args.raw.now c.requires.faultless }
 
 pub unreachable-requires-in-Err-Schema : goal.unreachable-requires-in-Err-Schema
 unreachable-requires-in-Err-Schema c =

@@ -1,15 +1,16 @@
-use Rattle.std.proofs.Common.{ap, ◌∙◌}
-use Rattle.std.specs.Prelude.{if◌then◌else◌}
+use Rattle.std.proofs.Common.{refl, ap, sym, ◌∙◌}
 use Rattle.mp_words.specs.Faults.{least_from}
-use Rattle.mp_theorytext.specs.Statics.{twice_faults, concl_item_faults, premise_item_faults}
-use Rattle.mp_theorytext.proofs.FaultWalks.{item_parts}
+use Rattle.mp_theorytext.specs.Scopes.{syms_of}
+use Rattle.mp_theorytext.specs.Statics.{item_faults}
+use Rattle.mp_theorytext.proofs.FaultWalks.{context_parts}
 use Rattle.mp_theorytext.proofs.statics.check_item.Goals as goal
 
-pub returns-clause-fault : goal.returns-clause-fault
-returns-clause-fault c =
-    let i = c.args.raw.now in
-    let final = c.args.in_conclusion in
-    let concl = c.args.concl.now in
-    item_parts final concl c.args.known.now.items c.args.env.now.items i c.args.held c.check_twice-held.result c.check_order-held.result c.in_ok-found.found
-    (c.check_twice-held.ensures ∙ ap (λ ns. least_from c.args.held (twice_faults ns i)) c.as_slice.ensures.value)
-    (c.check_order-held.ensures ∙ ap (λ ns. least_from c.check_twice-held.result (if final then concl_item_faults concl ns i else premise_item_faults concl i)) c.as_slice-2.ensures.value) c.in_ok-found.ensures.fault
+pub returns-in_ok-found-in-Ctx-clause-fault : goal.returns-in_ok-found-in-Ctx-clause-fault
+returns-in_ok-found-in-Ctx-clause-fault c =
+    let x = c.in-Ctx in
+    context_parts (syms_of c.args.known.now) c.args.in_conclusion c.args.item.now x.name x.ctxs c.as_slice.result.now x.args c.as_slice-args.result.now x.at c.args.env.now.items c.args.held c.in_ok-held-in-Ctx.held c.in_ok-found-in-Ctx.found
+    x.is c.as_slice.ensures c.as_slice-args.ensures c.in_ok-held-in-Ctx.ensures (c.in_ok-found-in-Ctx.ensures.fault 2 refl)
+
+pub returns-in_ok-found-in-Hyp-clause-fault : goal.returns-in_ok-found-in-Hyp-clause-fault
+returns-in_ok-found-in-Hyp-clause-fault c =
+    c.in_ok-found-in-Hyp.ensures.fault 1 refl ∙ ap (λ i. least_from c.args.held (item_faults (syms_of c.args.known.now) c.args.in_conclusion i c.args.env.now.items)) (sym c.in-Hyp.is)

@@ -1,4 +1,8 @@
-use Rattle.mp_theorytext.proofs.FaultWalks.{items_next, bound_next}
+use Rattle.std.proofs.Common.{ap, ◌∙◌}
+use Rattle.mp_words.specs.Faults.{least_from}
+use Rattle.mp_theorytext.specs.Scopes.{env_past, syms_of}
+use Rattle.mp_theorytext.specs.Statics.{item_faults}
+use Rattle.mp_theorytext.proofs.FaultWalks.{bound_next, items_next}
 use Rattle.mp_theorytext.proofs.statics.check_items.Goals as goal
 
 pub loop-item-preserved : goal.loop-item-preserved
@@ -6,8 +10,11 @@ loop-item-preserved c =
     let items = c.args.items.now in
     let i = c.loop-item.item-index in
     let x = c.item-item.result in
+    let final = c.args.in_conclusion in
+    let env = c.loop-item.env.items in
+    let bound = c.in_ok-push_name.ensures ∙ ap (env_past x) c.in_ok-held.ensures.env in
+    let found = c.in_ok-held.ensures.fault ∙ ap (λ ns. least_from c.loop-item.held (item_faults (syms_of ns) final x env)) c.as_slice.ensures.value in
     record {
-      bound = bound_next c.args.in_conclusion c.args.concl.now items i x c.loop-item-test.true c.item-item.is c.loop-item.env.items c.check_item.new.env.items _ c.in_ok-held.ensures.env c.loop-item.invariant.bound;
-      found = items_next c.args.in_conclusion c.args.concl.now items i x c.loop-item-test.true c.item-item.is c.loop-item.known.items c.check_item.new.known.items c.loop-item.env.items c.check_item.new.env.items c.loop-item.held c.in_ok-held.held _
-          c.in_ok-held.ensures.fault c.in_ok-held.ensures.known c.in_ok-held.ensures.env c.loop-item.invariant.found;
+      bound = bound_next final items i x c.loop-item-test.true c.item-item.is env c.push_name.new.env.items _ bound c.loop-item.invariant.bound;
+      found = items_next final items i x c.loop-item-test.true c.item-item.is c.loop-item.known.items c.push_context.new.known.items env c.push_name.new.env.items c.loop-item.held c.in_ok-held.held _ found c.in_ok-push_context.ensures bound c.loop-item.invariant.found;
     }

@@ -1,7 +1,6 @@
-use Rattle.mp_theorytext.proofs.FaultWalks.{rules_next}
+use Rattle.mp_theorytext.proofs.FaultWalks.{theory_parts}
 use Rattle.mp_theorytext.proofs.statics.theory_fault.Goals as goal
 
-pub loop-raw-preserved : goal.loop-raw-preserved
-loop-raw-preserved c =
-    rules_next c.as_slice-raw-items.result.now c.loop-raw.raw-index c.raw-item.result c.loop-raw.met c.check_taken.new.met c.loop-raw.held c.in_ok-found.found c.in_ok-held.held _
-    c.loop-raw-test.true c.raw-item.is c.in_ok-found.ensures.met c.in_ok-found.ensures.fault c.in_ok-held.ensures c.loop-raw.invariant
+pub returns : goal.returns
+returns c =
+    theory_parts c.args.theory.now c.args.raws.now c.as_slice-raws.result.now c.check_free-held.result c.in_ok-held.held c.in_ok-found.found c.as_slice-raws.ensures c.check_free-held.ensures c.in_ok-held.ensures c.in_ok-found.ensures

@@ -1,10 +1,11 @@
 use Rattle.std.proofs.Common.{arith}
 use Rattle.std.proofs.lemmas.List.{length-map}
 use Rattle.mp_theorytext.specs.Scopes.{syms_of}
-use Rattle.mp_theorytext.proofs.UseSteps.{other_lengths}
+use Rattle.mp_theorytext.proofs.FirstUseSteps.{other_lengths}
 use Rattle.mp_theorytext.proofs.uses.are_same_names.Goals as goal
 
-pub returns-then-names-raws : goal.returns-then-names-raws
-returns-then-names-raws c =
-    let many = length-map c.args.raws.now (λ n. n.name) in
-    other_lengths c.args.names.now (syms_of c.args.raws.now) (λ e. absurd (omega (arith, many, e)))
+pub returns-then-names-others : goal.returns-then-names-others
+returns-then-names-others c =
+    let a = length-map c.args.names.now (λ n. n.name) in
+    let b = length-map c.args.others.now (λ n. n.name) in
+    other_lengths (syms_of c.args.names.now) (syms_of c.args.others.now) (λ e. absurd (omega (arith, a, b, e)))

@@ -1,10 +1,8 @@
-use Rattle.std.proofs.Common.{sym, length}
-use Rattle.mp_refiner.specs.Steps.{width_of_rules}
-use Rattle.mp_refiner.specs.laws.Widths.{at_most, wide}
+use Rattle.mp_refiner.proofs.Stepping.{answer_good, answer_narrow}
 use Rattle.mp_refiner.proofs.refiner.RefinerLogic.step.Goals as goal
 
+pub returns-in-Some-clause-good : goal.returns-in-Some-clause-good
+returns-in-Some-clause-good c = answer_good c.in-Some.rule.now _ _ c.args.goal.now c.rule_step.result c.rule_step.ensures
+
 pub returns-in-Some-clause-narrow : goal.returns-in-Some-clause-narrow
-returns-in-Some-clause-narrow c =
-    let r = c.in-Some.rule.now in
-    let is = rw c.self.view_is at c.in-Some.ensures.rule in
-    at_most c.rule_step.result (length r.premises) (width_of_rules c.args.self.now) (wide c.args.self.now _ r (sym is)) c.rule_step.ensures.narrow
+returns-in-Some-clause-narrow c = answer_narrow c.in-Some.rule.now _ _ c.args.goal.now c.rule_step.result c.rule_step.ensures c.args.self.now _ (rw c.self.view_is at c.in-Some.ensures.rule)

@@ -1,27 +1,26 @@
-use Rattle.std.proofs.Common.{refl, inl, inr, rules}
-use Rattle.mp_schematext.specs.Grammar.{IsRawRule, StuckRule, StuckPremises, StuckSchema}
-use Rattle.mp_words.proofs.Steps.{failed_on, stuck_at}
+use Rattle.mp_words.proofs.Steps.{fails_on}
+use Rattle.mp_schematext.specs.Grammar.{premises, rule, schema}
+use Rattle.mp_schematext.proofs.RuleSteps.{rule_read, shorter_rule, stuck_conclusion, stuck_premises}
 use Rattle.mp_schematext.proofs.rule.RawRuleReader.read.Goals as goal
 
-pub returns-in_default-clause-reads : goal.returns-in_default-clause-reads
-returns-in_default-clause-reads c =
-    let us = c.in_ok-name.at.now in
-    stuck_at StuckRule c.args.words.now us c.stuck.result c.stuck.ensures (inr (c.in_ok-name.name, us, c.in_ok-name.ensures.reads, inl (c.in_default.ensures, refl)))
+pub returns-in-Err-listed-clause-reads : goal.returns-in-Err-listed-clause-reads
+returns-in-Err-listed-clause-reads c =
+    let ts = c.args.words.now in
+    let vs = c.in-Some.rest.now in
+    fails_on (premises vs) (rule ts) (stuck_premises ts c.in-Ok.read.1.now vs c.in-Ok.read.0 c.in-Ok.ensures.reads c.in-Some.ensures.0 c.in-Some.ensures.1) c.in-Err-listed.fail c.in-Err-listed.ensures.reads
 
-pub returns-in_err-premises-clause-reads : goal.returns-in_err-premises-clause-reads
-returns-in_err-premises-clause-reads c =
-    let us = c.in_ok-name.at.now in
-    let vs = c.in-Some.at.now in
-    failed_on _ IsRawRule StuckPremises StuckRule vs c.args.words.now (λ rest h. inr (c.in_ok-name.name, us, c.in_ok-name.ensures.reads, inr (vs, c.in-Some.ensures, inl h))) _ c.in_err-premises.field-0.0 (search rules) c.in_err-premises.ensures.reads
+pub returns-in-Ok-read-clause-reads : goal.returns-in-Ok-read-clause-reads
+returns-in-Ok-read-clause-reads c =
+    let listed = c.in-Ok-listed.read in
+    rule_read c.args.words.now c.in-Ok.read.1.now c.in-Some.rest.now c.in-Ok.read.0 c.in-Ok.ensures.reads c.in-Some.ensures.0 c.in-Some.ensures.1 listed.0 listed.1.now c.in-Ok-listed.ensures.reads c.in-Ok-read.concl c.in-Ok-read.rest.now c.in-Ok-read.ensures.reads
 
-pub returns-in_err-concl-clause-reads : goal.returns-in_err-concl-clause-reads
-returns-in_err-concl-clause-reads c =
-    let us = c.in_ok-name.at.now in
-    let vs = c.in-Some.at.now in
-    let ws = c.in_ok-premises.at.now in
-    failed_on _ IsRawRule StuckSchema StuckRule ws c.args.words.now
-    (λ rest h. inr (c.in_ok-name.name, us, c.in_ok-name.ensures.reads, inr (vs, c.in-Some.ensures, inr (c.in_ok-premises.premises, ws, c.in_ok-premises.ensures.reads, h)))) _ c.in_err-concl.field-0.0 (search rules) c.in_err-concl.ensures.reads
+pub returns-in-Ok-read-clause-shorter : goal.returns-in-Ok-read-clause-shorter
+returns-in-Ok-read-clause-shorter c =
+    shorter_rule c.args.words.now c.in-Ok.read.1.now c.in-Some.rest.now c.in-Ok-listed.read.1.now c.in-Ok-read.rest.now c.in-Some.ensures.1 c.in-Ok.ensures.shorter c.in-Ok-listed.ensures.shorter c.in-Ok-read.ensures.shorter
 
-pub returns-clause-reads : goal.returns-clause-reads
-returns-clause-reads c =
-    (c.in_ok-name.at.now, c.in_ok-name.ensures.reads, (c.in-Some.at.now, c.in-Some.ensures, (c.in_ok-premises.at.now, c.in_ok-premises.ensures.reads, c.in_ok-concl.ensures.reads)))
+pub returns-in-Err-read-clause-reads : goal.returns-in-Err-read-clause-reads
+returns-in-Err-read-clause-reads c =
+    let ts = c.args.words.now in
+    let listed = c.in-Ok-listed.read in
+    fails_on (schema listed.1.now) (rule ts)
+    (stuck_conclusion ts c.in-Ok.read.1.now c.in-Some.rest.now c.in-Ok.read.0 c.in-Ok.ensures.reads c.in-Some.ensures.0 c.in-Some.ensures.1 listed.0 listed.1.now c.in-Ok-listed.ensures.reads) c.in-Err-read.fail c.in-Err-read.ensures.reads

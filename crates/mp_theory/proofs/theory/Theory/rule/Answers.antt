@@ -1,16 +1,11 @@
-use Rattle.std.proofs.Common.{map, ap, ◌∙◌, sym}
-use Rattle.std.specs.Prelude.{slice_get}
-use Rattle.std.specs.Option.{option_map}
-use Rattle.std.proofs.lemmas.Option.{slice_get-map}
-use Rattle.mp_theory.proofs.Entries.{rule_in, rule_at}
+use Rattle.std.proofs.Common.{ap, ◌∙◌}
+use Rattle.std.specs.Prelude.{option_and_then}
+use Rattle.mp_theory.specs.Tables.{rule_in}
+use Rattle.mp_theory.proofs.LookUps.{rule_whole}
 use Rattle.mp_theory.proofs.theory.Theory.rule.Goals as goal
 
-pub returns-in-Some-clause-whole : goal.returns-in-Some-clause-whole
-returns-in-Some-clause-whole c =
-    let es = c.self.inside.rules.entries in
-    rule_at (map rule_in es) c.args.place c.in-Some.rule.now c.self.invariant.1 (slice_get-map rule_in es c.args.place ∙ ap (option_map rule_in) (sym c.in-Some.ensures.entry))
-
-pub returns-in-None-clause-rule : goal.returns-in-None-clause-rule
-returns-in-None-clause-rule c =
-    let es = c.self.inside.rules.entries in
-    ap (option_map rule_in) c.in-None.ensures.entry ∙ sym (slice_get-map rule_in es c.args.place) ∙ ap (λ rs. slice_get rs c.args.place) c.self.view_is
+pub returns-in-Some : goal.returns-in-Some
+returns-in-Some c = record {
+  rule = c.as_rule.ensures ∙ ap (option_and_then rule_in) c.in-Some.ensures.law;
+  whole = rule_whole c.in-Some.law.now c.as_rule.result c.in-Some.ensures.whole c.as_rule.ensures;
+}

@@ -1,8 +1,0 @@
-use Rattle.std.proofs.Common.{◌≡◌, drop}
-use Rattle.std.specs.List.{flat_map}
-use Rattle.mp_words.specs.Faults.{least_from}
-use Rattle.mp_scripttext.specs.Statics.{missing_faults}
-use Rattle.mp_scripttext.proofs.step_statics.check_missing.Given as goal
-
-abbrev pub invariant-loop-need : goal.invariant-loop-need
-invariant-loop-need l = least_from l.held (flat_map (missing_faults l.raw) (drop l.need-index l.needs)) ≡ least_from l.held (flat_map (missing_faults l.raw) l.needs)

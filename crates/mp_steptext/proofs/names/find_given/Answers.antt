@@ -1,0 +1,16 @@
+use Rattle.std.proofs.Common.{ap, sym, ◌∙◌, slice_get}
+use Rattle.std.specs.Option.{option_and_then}
+use Rattle.mp_steptext.proofs.MetNames.{item_at, given_at}
+use Rattle.mp_steptext.proofs.names.find_given.Goals as goal
+
+pub returns-in_err-place : goal.returns-in_err-place
+returns-in_err-place g c =
+    let given = c.args.given.now in
+    let place = sym c.place.ensures ∙ c.in_err-place.was in
+    rw c.from_residual.ensures (sym (given_at given c.args.names.now c.args.name c.requires ∙ ap (option_and_then (slice_get given)) place))
+
+pub returns : goal.returns
+returns g c =
+    let given = c.args.given.now in
+    let place = sym c.place.ensures ∙ c.in_ok-place.was in
+    item_at given c.in_ok-place.place c.get.result c.get.ensures.lookup ∙ sym (given_at given c.args.names.now c.args.name c.requires ∙ ap (option_and_then (slice_get given)) place)

@@ -1,0 +1,18 @@
+//! Steps as they are written: their grammar, their static rules and their values. What a step gives for a need is a
+//! parameter: a term here, and whatever else has a reader.
+#![tactic(auto)]
+
+mod body;
+mod names;
+mod raw;
+mod statics;
+mod syntax;
+mod term;
+mod value;
+
+pub use body::{Body, StepValue};
+pub use raw::{RawGiven, RawStep};
+pub use statics::check_step;
+pub use syntax::{parse_number_behind, parse_step};
+pub use term::{GivenTerm, build_just};
+pub use value::build_step;
