@@ -34,7 +34,7 @@ use Rattle.mp_run.specs.declared.stop.Stop.{Stop}
 use Rattle.mp_run.specs.declared.stop.Stop.TheVariants as stop
 use Rattle.mp_run.specs.Answers.{IsFrom, AllFrom, IsTold, TaskIsTold, AreTold, Whole, Answers}
 use Rattle.mp_run.specs.Commands.{From, Named, Made, Task, Seq, Drill, Command}
-use Rattle.mp_run.specs.Goals.{goal_work, goal_outcome, evaluate_in, IsBlock, IsEvaluated, IsDrilled}
+use Rattle.mp_run.specs.Goals.{goal_work, goal_outcome, evaluate_in, IsBlock, IsDrilled}
 use Rattle.mp_run.specs.Lines.{limit_of}
 use Rattle.mp_run.specs.Loads.{Plan, Evaluated, Drilled, Said, plan_part, loads}
 use Rattle.mp_run.specs.Parts.{Names, Reading, Part, gives, and_then, Answered, taken_from, SaysSo, says, read_as}

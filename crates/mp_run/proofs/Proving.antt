@@ -1,5 +1,5 @@
 -- Trees of evaluation prove their goals by steps of the rules.
-use Rattle.std.proofs.Common.{◌≡◌, ℕ, ◌<◌, ◌≤◌, Bool, true, false, List, [], ◌∷◌, map, length, nat_eq, nat_lt, Option, Some, None, Ok, Err, IsTrue, IfOk, refl, sym, subst, arith}
+use Rattle.std.proofs.Common.{◌≡◌, ℕ, ◌<◌, ◌≤◌, true, false, List, [], ◌∷◌, map, length, nat_eq, nat_lt, Option, Some, None, Ok, IsTrue, refl, sym, subst, arith}
 use Rattle.std.proofs.lemmas.Bool.{and_parts}
 use Rattle.std.proofs.lemmas.Bool.Decides.{nat_tests}
 use Rattle.std.specs.List.{AllByRecursion, list_all}
@@ -28,7 +28,7 @@ use Rattle.mp_strategy.proofs.Allowed.{eval_allowed}
 use Rattle.mp_strategy.proofs.Goods.{allowed_at}
 use Rattle.mp_strategy.proofs.Inner.{good_kids}
 use Rattle.mp_strategy.proofs.Sound.{sound_in}
-use Rattle.mp_strategy.proofs.Steps.{root-Leaf, root-Step, every_here, every_kid}
+use Rattle.mp_strategy.proofs.Steps.{root-Step, every_here, every_kid}
 use Rattle.mp_refiner.specs.Law.{StepLaw, IsStep, IsStepAt}
 use Rattle.mp_refiner.specs.RuleStep.{RuleStep}
 use Rattle.mp_refiner.specs.Steps.{meaning_of}

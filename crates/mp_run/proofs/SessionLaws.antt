@@ -16,7 +16,7 @@ use Rattle.mp_run.specs.declared.status.Status.{Status}
 use Rattle.mp_run.specs.declared.status.Status.TheVariants as status
 use Rattle.mp_run.specs.declared.stop.Stop.{Stop}
 use Rattle.mp_run.specs.declared.stop.Stop.TheVariants as stop
-use Rattle.mp_run.specs.Answers.{Whole, Answers, WritesOf, WholeUsage, Writes, RunCause, Keeps}
+use Rattle.mp_run.specs.Answers.{Whole, Answers, WritesOf, WholeUsage, Writes, RunCause}
 use Rattle.mp_run.specs.Commands.{Command, usage_line}
 use Rattle.mp_run.specs.Goals.{is_closed_outcome}
 use Rattle.mp_run.specs.Lines.{fault_line}

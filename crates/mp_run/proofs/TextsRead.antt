@@ -1,5 +1,5 @@
 -- The texts of a command, each read in its turn.
-use Rattle.std.proofs.Common.{◌≡◌, ℕ, inl, List, [], Result, Ok, Err, refl, subst}
+use Rattle.std.proofs.Common.{◌≡◌, inl, [], Result, Ok, Err, refl, subst}
 use Rattle.mp_ports.specs.Calls.{Read}
 use Rattle.mp_theory.specs.Tables.{Laws, no_laws}
 use Rattle.mp_theorytext.specs.Reading.{ReadsTheory}

@@ -72,7 +72,7 @@ pub fn some_answer()
 }
 
 /// What the events of a drill claim, lose, reissue or report late changes nothing of the outcome: it is the one that evaluation from
-/// left to right gives. The job of a goal isn't split so far.
+/// left to right gives, since a goal is one job.
 pub fn drills_evaluate()
     ensures { (theory : Laws) (goal : Goal) (events : List Event) (replies : List Reply) (outcome : Outcome Sequent) → IsTrace (evaluate_in theory goal) (goal_work goal) events replies outcome
         → outcome ≡ goal_outcome theory goal }

@@ -1,5 +1,5 @@
 -- The logic that halves numbers: what its steps give, and that they are those of a logic.
-use Rattle.std.specs.Prelude.{◌≡◌, ◌≤◌, ◌/◌, ◌%◌, ℕ, zero, suc, List, length, replicate, Bool, true, false, if◌then◌else◌, Ok, Err, IsTrue, IfOk, nat_eq, nat_le}
+use Rattle.std.specs.Prelude.{◌≤◌, ◌/◌, ◌%◌, ℕ, zero, suc, List, length, replicate, Bool, true, false, if◌then◌else◌, Ok, Err, IsTrue, IfOk, nat_eq, nat_le}
 use Rattle.std.specs.List.{list_all}
 use Rattle.std.proofs.Common.{refl}
 use Rattle.std.proofs.lemmas.Bool.{leb-true}

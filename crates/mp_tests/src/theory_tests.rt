@@ -176,15 +176,20 @@ fn is_whole(theory: &Theory) -> Option<bool> {
     Some(rewrite.name == named('w') && rewrite.conds.len() == 2)
 }
 
+/// Adds the laws to a theory without laws, and looks for each.
+fn find_laws(alloc: Global, theory: &mut Theory) -> Result<(), Fail> {
+    check(LAWS.len(), Some(theory.width() == 0))?;
+    add_all(alloc, theory, &LAWS)?;
+    // two conditions and the rewritten goal are one more than two premises
+    check(LAWS.len(), Some(theory.width() == 3))?;
+    check(FOUND.len(), is_whole(theory))?;
+    are_found(theory)
+}
+
 #[test]
 fn rules_and_rewrites_are_found_as_what_they_are(rt: HostRuntime) -> Result<(), Fail> {
     let mut theory = Theory::new(rt.alloc());
-    check(LAWS.len(), Some(theory.width() == 0))?;
-    add_all(rt.alloc(), &mut theory, &LAWS)?;
-    // two conditions and the rewritten goal are one more than two premises
-    check(LAWS.len(), Some(theory.width() == 3))?;
-    check(FOUND.len(), is_whole(&theory))?;
-    are_found(&theory)
+    find_laws(rt.alloc(), &mut theory)
 }
 
 /// The names of what is needed.

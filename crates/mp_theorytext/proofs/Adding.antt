@@ -1,5 +1,5 @@
 -- Rules without static faults may be added to a theory, one after the other.
-use Rattle.std.proofs.Common.{◌≡◌, ℕ, ◌+◌, ◌<◌, ◌++◌, List, [], ◌∷◌, map, length, drop, get_or, Bool, true, false, ◌||◌, nat_eq, Option, None, Some, Result, Ok, Err, refl, ap, sym, subst, ◌∙◌, arith, true≢false}
+use Rattle.std.proofs.Common.{◌≡◌, ℕ, ◌+◌, ◌<◌, ◌++◌, List, [], ◌∷◌, map, length, drop, get_or, Bool, true, false, ◌||◌, nat_eq, None, Some, Err, refl, ap, sym, subst, ◌∙◌, arith, true≢false}
 use Rattle.std.specs.Prelude.{if◌then◌else◌}
 use Rattle.std.specs.List.{flat_map}
 use Rattle.std.proofs.lemmas.Bool.Decides.{nat_tests}
@@ -10,20 +10,19 @@ use Rattle.mp_schema.specs.declared.fault.SchemaFault.{SchemaFault}
 use Rattle.mp_schema.specs.Faults.{rule_fault_of}
 use Rattle.mp_theory.specs.declared.theory.TheoryErr.{TheoryErr}
 use Rattle.mp_theory.specs.declared.theory.TheoryErr.TheVariants as err
-use Rattle.mp_theory.specs.Laws.{TakenNames, TheoriesGrow}
-use Rattle.mp_theory.specs.Tables.{IsRefusal, IsTheory, Laws, added_rule, law_count, name_taken, refusal_by, refusal_of}
+use Rattle.mp_theory.specs.Tables.{IsRefusal, IsTheory, Laws, law_count, name_taken, refusal_by, refusal_of}
 use Rattle.mp_theory.proofs.Laws.{added_rules_stand, taken_names, theories_grow}
 use Rattle.mp_words.specs.declared.fail.TextErr.{TextErr}
 use Rattle.mp_words.specs.declared.fail.TextWhy.TheVariants as why
-use Rattle.mp_words.specs.declared.raw.RawName.{RawName}
 use Rattle.mp_words.specs.Faults.{fault_if}
-use Rattle.mp_words.specs.Seconds.{second_after, second_faults}
+use Rattle.mp_words.specs.Seconds.{second_after}
 use Rattle.mp_words.proofs.NoFaults.{nil_parts, no_fault}
 use Rattle.mp_words.proofs.Walks.{left_cons}
 use Rattle.mp_schematext.specs.declared.raw.RawRule.{RawRule}
 use Rattle.mp_theorytext.specs.Statics.{rule_faults, theory_faults}
 use Rattle.mp_theorytext.specs.Values.{schema_of, with_rule, with_rules}
 use Rattle.mp_theorytext.proofs.RuleTells.{rule_tells}
+use Rattle.mp_theorytext.proofs.Twice.{or_no, or_parts}
 
 -- ## Names that are free
 
@@ -32,14 +31,6 @@ taken_faults t rs = flat_map (λ (r : RawRule). fault_if (name_taken t r.name.na
 
 abbrev twice_faults : List Sym → List RawRule → List TextErr
 twice_faults before rs = second_after (λ (r : RawRule). r.name) why.Taken before rs
-
-or_no : (a b : Bool) → a ≡ false → b ≡ false → (a || b) ≡ false
-or_no true b e f = absurd (true≢false e)
-or_no false b e f = f
-
-or_parts : (a b : Bool) → (a || b) ≡ false → (a ≡ false) × (b ≡ false)
-or_parts true b e = absurd (true≢false e)
-or_parts false b e = (refl, e)
 
 among_more : (xs ys : List Sym) (n : Sym) → is_among (xs ++ ys) n ≡ (is_among xs n || is_among ys n)
 among_more [] ys n = refl

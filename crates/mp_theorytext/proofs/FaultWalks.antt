@@ -1,5 +1,5 @@
 -- The least fault so far goes on from one part to the next.
-use Rattle.std.proofs.Common.{◌≡◌, ◌++◌, ◌+◌, ◌<◌, ℕ, List, [], ◌∷◌, Option, None, Some, Bool, true, false, not, ◌&&◌, ◌||◌, nat_eq, nat_lt, if◌then◌else◌, refl, ap, sym, ◌∙◌, append-nil, true≢false, drop, take, length, get_or, map, arith}
+use Rattle.std.proofs.Common.{◌≡◌, ◌++◌, ◌+◌, ◌<◌, ℕ, List, [], ◌∷◌, Option, None, Some, Bool, true, false, not, ◌&&◌, ◌||◌, nat_eq, nat_lt, if◌then◌else◌, refl, ap, sym, ◌∙◌, append-nil, true≢false, drop, length, get_or, map, arith}
 use Rattle.std.specs.List.{flat_map}
 use Rattle.std.specs.Prelude.{is_some, slice_get}
 use Rattle.std.proofs.lemmas.Bool.Decides.{nat_tests}
@@ -13,10 +13,9 @@ use Rattle.mp_words.specs.declared.fail.TextWhy.{TextWhy}
 use Rattle.mp_words.specs.declared.fail.TextWhy.TheVariants as why
 use Rattle.mp_words.specs.declared.raw.RawName.{RawName}
 use Rattle.mp_words.specs.Faults.{fault_at_any, fault_if, is_behind, least, least_from, rank_of, too_many}
-use Rattle.mp_words.specs.Seconds.{second_after, second_faults}
+use Rattle.mp_words.specs.Seconds.{second_faults}
 use Rattle.mp_words.proofs.Soonest.{least_from_append}
 use Rattle.mp_words.proofs.FaultParts.{flat_next, two_parts, three_parts, four_parts}
-use Rattle.mp_words.proofs.MetWalks.{names_next}
 use Rattle.mp_words.proofs.Walks.{left_cons}
 use Rattle.mp_termtext.specs.Statics.{deep, each_faults}
 use Rattle.mp_schematext.specs.declared.raw.RawParamPat.{RawParamPat}
@@ -28,13 +27,13 @@ use Rattle.mp_schematext.specs.declared.raw.RawItem.TheVariants as item
 use Rattle.mp_schematext.specs.declared.raw.RawSchema.{RawSchema}
 use Rattle.mp_schematext.specs.declared.raw.RawRule.{RawRule}
 use Rattle.mp_theorytext.specs.Scopes.{context_in, contexts_of, contexts_past, env_behind, env_past, syms_of}
-use Rattle.mp_theorytext.specs.Nodes.{Argument, argument_faults, argument_of, bound_node_faults, dangling_faults, list_faults, node_faults, param_place, use_faults}
+use Rattle.mp_theorytext.specs.Nodes.{argument_of, bound_node_faults, dangling_faults, node_faults, param_place, use_faults}
 use Rattle.mp_theorytext.specs.Statics.{conclusion_faults, frame_faults, item_at, item_faults, items_faults, misplaced_faults, premise_faults, raw_schema_size_of, rule_faults, schema_faults, theory_faults, uses_faults}
 use Rattle.mp_theorytext.specs.Uses.{hole_faults, raw_schema_holes, uses_in_rule}
 use Rattle.mp_theorytext.proofs.RawLayers.{node_faults-Meta, node_faults-Op}
 use Rattle.mp_theorytext.proofs.Twice.{among_has}
 
-syms_both : (xs ys : List RawName) → syms_of (xs ++ ys) ≡ syms_of xs ++ syms_of ys
+pub syms_both : (xs ys : List RawName) → syms_of (xs ++ ys) ≡ syms_of xs ++ syms_of ys
 syms_both [] ys = refl
 syms_both (x ∷ xs) ys = ap (λ ns. x.name ∷ ns) (syms_both xs ys)
 
@@ -117,19 +116,6 @@ unframed s contexts held a all other e =
     e ∙ ap (λ cs. least_from held (fault_at_any (λ (c : RawName). c.at) why.TooManyContexts (slice_get cs 2))) all
     ∙ ap (least_from held) (sym (append-nil third) ∙ ap (λ b. third ++ (if b then misplaced_faults 0 s.items else [])) (sym test'))
 
--- the parts of a use
-pub use_parts : (known : List Sym) (ds : List RawName) (args : List Argument) (held a b c : Option TextErr) → a ≡ least_from held (too_many (λ (n : RawName). n.at) 8 ds ++ too_many (λ (x : Argument). x.at) 8 args) → b ≡ least_from a (dangling_faults known ds)
-    → c ≡ least_from b (second_faults (λ (n : RawName). n) why.TwiceContext ds) → c ≡ least_from held (use_faults known false ds args)
-use_parts known ds args held a b c e f g =
-    let counts = too_many (λ (n : RawName). n.at) 8 ds ++ too_many (λ (x : Argument). x.at) 8 args in
-    two_parts held a c counts (list_faults known ds) e (two_parts a b c (dangling_faults known ds) (second_faults (λ (n : RawName). n) why.TwiceContext ds) f g)
-    ∙ ap (least_from held) (sym (append-nil (counts ++ list_faults known ds)))
-
-pub last_parts : (known : List Sym) (ds : List RawName) (args : List Argument) (held c d : Option TextErr) → c ≡ least_from held (use_faults known false ds args) → d ≡ least_from c (argument_faults args) → d ≡ least_from held (use_faults known true ds args)
-last_parts known ds args held c d e f =
-    let first = too_many (λ (n : RawName). n.at) 8 ds ++ too_many (λ (x : Argument). x.at) 8 args ++ list_faults known ds in
-    two_parts held c d first (argument_faults args) (e ∙ ap (least_from held) (append-nil first)) f
-
 -- the parts of a premise
 pub premise_parts : (s : RawSchema) (concl : List Sym) (known contexts : List RawName) (held a b : Option TextErr) → contexts ≡ contexts_of s → known ≡ contexts → a ≡ least_from held (dangling_faults concl known) → b ≡ least_from a (schema_faults false s)
     → b ≡ least_from held (premise_faults concl s)
@@ -159,25 +145,6 @@ dangling_next known names i x held next whole unknown lt is e f prev =
     let here : next ≡ least_from held (fault_if (not (has (syms_of known) x.name)) x.at why.DanglingContext) =
     f ∙ ap (λ b. least_from held (fault_if b x.at why.DanglingContext)) e ∙ guarded held x.at why.DanglingContext (not (is_among (syms_of known) x.name)) ∙ ap (λ b. least_from held (fault_if (not b) x.at why.DanglingContext)) (among_has (syms_of known) x.name) in
     flat_next (λ (c : RawName). fault_if (not (has (syms_of known) c.name)) c.at why.DanglingContext) names i x held next whole lt is here prev
-
-pub apart_next : (w : TextWhy) (names earlier : List RawName) (i : ℕ) (x : RawName) (held next whole : Option TextErr) (second : Bool) → i < length names → x ≡ get_or names i x → earlier ≡ take i names
-    → second ≡ (not (is_behind held x.at) && is_among (syms_of earlier) x.name) → next ≡ least_from held (fault_if second x.at w)
-    → least_from held (second_after (λ n. n) w (syms_of (take i names)) (drop i names)) ≡ whole → least_from next (second_after (λ n. n) w (syms_of (take (i + 1) names)) (drop (i + 1) names)) ≡ whole
-apart_next w names earlier i x held next whole second lt is early e f prev =
-    let here = fault_if (is_among (syms_of (take i names)) x.name) x.at w in
-    let rest = second_after (λ (n : RawName). n) w (syms_of (take i names) ++ x.name ∷ []) (drop (i + 1) names) in
-    let found : next ≡ least_from held here =
-    f ∙ ap (λ b. least_from held (fault_if b x.at w)) e ∙ guarded held x.at w (is_among (syms_of earlier) x.name) ∙ ap (λ ns. least_from held (fault_if (is_among (syms_of ns) x.name) x.at w)) early in
-    ap (λ ns. least_from next (second_after (λ (n : RawName). n) w ns (drop (i + 1) names))) (names_next (λ (n : RawName). n.name) names i x lt is)
-    ∙ two_parts held next (least_from next rest) here rest found refl
-    ∙ ap (λ ys. least_from held (second_after (λ (n : RawName). n) w (syms_of (take i names)) ys)) (sym (left_cons names i x lt is)) ∙ prev
-
--- one more of a list, each of which has the faults of what it gives
-pub mapped_next : {X Y : Type 0} (f : Y → List TextErr) (g : X → Y) (xs : List X) (i : ℕ) (x : X) (held next whole : Option TextErr) → i < length xs → x ≡ get_or xs i x → next ≡ least_from held (f (g x))
-    → least_from held (flat_map f (map g (drop i xs))) ≡ whole → least_from next (flat_map f (map g (drop (i + 1) xs))) ≡ whole
-mapped_next f g xs i x held next whole lt is found prev =
-    let rest = flat_map f (map g (drop (i + 1) xs)) in
-    two_parts held next (least_from next rest) (f (g x)) rest found refl ∙ ap (λ ys. least_from held (flat_map f (map g ys))) (sym (left_cons xs i x lt is)) ∙ prev
 
 -- ## Holes
 

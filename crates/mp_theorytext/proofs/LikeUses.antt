@@ -13,7 +13,6 @@ use Rattle.mp_schema.proofs.Layers.{occurrences_in-Var, occurrences_in-Op, occur
 use Rattle.mp_words.specs.declared.fail.TextWhy.TheVariants as why
 use Rattle.mp_words.specs.declared.raw.RawName.{RawName}
 use Rattle.mp_termtext.specs.Statics.{names_of}
-use Rattle.mp_schematext.specs.declared.raw.RawParamPat.{RawParamPat}
 use Rattle.mp_schematext.specs.declared.raw.RawPatternBound.{RawPatternBound}
 use Rattle.mp_schematext.specs.declared.raw.RawPattern.{RawPattern}
 use Rattle.mp_schematext.specs.declared.raw.RawPattern as raw

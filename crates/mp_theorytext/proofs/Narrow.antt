@@ -1,5 +1,5 @@
 -- Where no static rule is broken, numbers are small, and no rule is broken in the parts.
-use Rattle.std.proofs.Common.{◌≡◌, ◌++◌, ◌+◌, ◌<◌, ◌≤◌, ◌^◌, ℕ, suc, List, [], ◌∷◌, Bool, true, false, None, length, length-append, map, drop, get_or, refl, ap, sym, subst, ◌∙◌, arith}
+use Rattle.std.proofs.Common.{◌≡◌, ◌++◌, ◌+◌, ◌<◌, ◌≤◌, ◌^◌, ℕ, List, [], ◌∷◌, true, false, None, length, length-append, map, drop, get_or, ap, sym, subst, ◌∙◌, arith}
 use Rattle.std.specs.Prelude.{unwrap_or, nat_lt}
 use Rattle.std.specs.List.{flat_map}
 use Rattle.std.proofs.lemmas.List.{length-map}
@@ -93,9 +93,6 @@ context_faultless t n cs xs ys at env e same h =
     let both = nil_parts uses args (ap (λ i. item_faults h.0 h.1 i env) (sym e) ∙ h.2) in
     let long = h.3 in
     (h.0, h.1, 2, ap (λ vs. each_faults (map (node_faults h.0 h.1) vs) env 2) same ∙ both.1, omega (arith, long))
-
-pub hypothesis_faultless : (t : RawItem) (n : Sym) (p : RawPattern) (at : ℕ) (env : List Sym) → t ≡ item.Hyp n p at → IsFaultlessItem t env → IsFaultless p env
-hypothesis_faultless t n p at env e h = let long = h.3 in (h.0, h.1, 1, ap (λ i. item_faults h.0 h.1 i env) (sym e) ∙ h.2, omega (arith, long))
 
 env_grows : (i : RawItem) (env : List Sym) → length (env_past i env) ≤ length env + 1
 env_grows (item.Ctx n cs xs l) env = omega arith

@@ -1,5 +1,5 @@
 -- One level of each definition on patterns as they are written.
-use Rattle.std.proofs.Common.{◌≡◌, ℕ, suc, ◌+◌, ◌++◌, List, [], ◌∷◌, map, length, sum, Option, None, Some, Bool, false, refl, ap, ◌∙◌, rules}
+use Rattle.std.proofs.Common.{◌≡◌, ℕ, suc, ◌+◌, ◌++◌, List, [], ◌∷◌, map, length, sum, None, Some, Bool, false, refl, ap, ◌∙◌, rules}
 use Rattle.std.specs.Prelude.{unwrap_or}
 use Rattle.std.specs.List.{flat_map}
 use Rattle.std.proofs.lemmas.Simd.{map-map}
@@ -8,7 +8,7 @@ use Rattle.mp_logic.specs.declared.sym.Sym.{Sym}
 use Rattle.mp_schema.specs.declared.pattern.Pattern as pat
 use Rattle.mp_words.specs.Faults.{too_many}
 use Rattle.mp_words.specs.declared.raw.RawName.{RawName}
-use Rattle.mp_termtext.specs.Statics.{Checked, deep, each_faults, names_of, unless_bound}
+use Rattle.mp_termtext.specs.Statics.{deep, each_faults, names_of, unless_bound}
 use Rattle.mp_schematext.specs.declared.raw.RawParamPat.{RawParamPat}
 use Rattle.mp_schematext.specs.declared.raw.RawPatternBound.{RawPatternBound}
 use Rattle.mp_schematext.specs.declared.raw.RawPattern.{RawPattern, the_lemmas}
@@ -16,7 +16,7 @@ use Rattle.mp_schematext.specs.declared.raw.RawPattern as raw
 use Rattle.mp_schematext.proofs.RawInduction.{each_raw}
 use Rattle.mp_theorytext.specs.Scopes.{level_in, syms_of}
 use Rattle.mp_theorytext.specs.Values.{each_pattern_value, param_value, pattern_of, bound_of}
-use Rattle.mp_theorytext.specs.Nodes.{Argument, Viewed, param_place, argument_of, use_faults, viewed, node_faults, bound_node_faults}
+use Rattle.mp_theorytext.specs.Nodes.{Viewed, param_place, argument_of, use_faults, viewed, node_faults, bound_node_faults}
 use Rattle.mp_theorytext.specs.Uses.{Use, holes_in_param, raw_bound_holes, raw_holes, uses_in, uses_in_bound}
 use Rattle.mp_theorytext.specs.Statics.{raw_pattern_size_of, raw_bound_size_of}
 

@@ -1,6 +1,5 @@
 -- The static rules on a rule as it is written are those on the rule that it stands for.
-use Rattle.std.proofs.Common.{◌≡◌, ℕ, ◌≤◌, ◌++◌, List, [], ◌∷◌, map, length, Bool, true, false, ◌&&◌, ◌||◌, not, nat_le, Option, None, Some, refl, ap, sym, ◌∙◌, true≢false}
-use Rattle.std.specs.Prelude.{if◌then◌else◌, IsTrue}
+use Rattle.std.proofs.Common.{◌≡◌, ◌++◌, List, [], ◌∷◌, map, length, Bool, true, false, ◌&&◌, not, nat_le, None, refl, ap, sym, ◌∙◌}
 use Rattle.std.specs.List.{list_all, flat_map}
 use Rattle.std.proofs.lemmas.Bool.{and_parts, and_from}
 use Rattle.std.proofs.lemmas.List.{length-map}
@@ -11,14 +10,14 @@ use Rattle.mp_schema.specs.declared.fault.SchemaFault.TheVariants as fault
 use Rattle.mp_schema.specs.Conditions.{has, has_all, context_names, is_framed}
 use Rattle.mp_schema.specs.Limits.{few_of_schema, is_shallow_schema, is_small_schema}
 use Rattle.mp_schema.specs.Faults.{first_fault, is_closed, is_consistent, is_listed, is_single, occurrences_of_rule, on_variables, rule_is_few, rule_is_shallow, rule_is_small, rule_is_closed, rule_is_listed, rule_is_single, rule_has_few_contexts, rule_is_framed, rule_is_on_variables, rule_is_consistent, rule_is_filled, rule_fault_of}
-use Rattle.mp_schema.specs.Occurrences.{holes_in_schema, occurrences_in_schema}
+use Rattle.mp_schema.specs.Occurrences.{occurrences_in_schema}
 use Rattle.mp_words.specs.declared.fail.TextErr.{TextErr}
 use Rattle.mp_words.specs.declared.fail.TextWhy.TheVariants as why
 use Rattle.mp_words.specs.declared.raw.RawName.{RawName}
 use Rattle.mp_words.specs.Faults.{fault_if, too_many}
 use Rattle.mp_schematext.specs.declared.raw.RawSchema.{RawSchema}
 use Rattle.mp_schematext.specs.declared.raw.RawRule.{RawRule}
-use Rattle.mp_theorytext.specs.Laws.{HasBoundVariables, OneSetOfRules}
+use Rattle.mp_theorytext.specs.Laws.{OneSetOfRules}
 use Rattle.mp_theorytext.specs.Scopes.{contexts_of, syms_of}
 use Rattle.mp_theorytext.specs.Statics.{conclusion_faults, premise_faults, rule_faults, uses_faults}
 use Rattle.mp_theorytext.specs.Uses.{hole_faults, raw_schema_holes, uses_in_rule}
@@ -238,9 +237,6 @@ module _ (r : RawRule) where
 
   abbrev tests1 : List (SchemaFault × Bool)
   tests1 = (fault.TooDeep, rule_is_shallow premises concl) ∷ tests2
-
-  abbrev tests0 : List (SchemaFault × Bool)
-  tests0 = (fault.TooMany, rule_is_few premises concl) ∷ tests1
 
   parts_from : rule_fault_of premises concl ≡ None → Parts
   parts_from h =

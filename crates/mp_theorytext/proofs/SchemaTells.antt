@@ -7,7 +7,6 @@ use Rattle.std.proofs.lemmas.Bool.Decides.{nat_tests}
 use Rattle.std.proofs.lemmas.List.{length-map}
 use Rattle.std.proofs.lemmas.List.Folds.{list_all-append}
 use Rattle.mp_logic.specs.declared.sym.Sym.{Sym}
-use Rattle.mp_logic.specs.Lists.{greatest}
 use Rattle.mp_term.specs.Terms.{all_at_scope}
 use Rattle.mp_schema.specs.declared.pattern.Pattern.{Pattern}
 use Rattle.mp_schema.specs.declared.schema.Item.{Item}
@@ -15,7 +14,7 @@ use Rattle.mp_schema.specs.declared.schema.Schema.{Schema}
 use Rattle.mp_schema.specs.Conditions.{Before, nothing_before, past, past_all, each_item, has, has_all, is_apart, context_names, has_two_contexts, item_between, is_framed, below}
 use Rattle.mp_schema.specs.Conditions as conditions
 use Rattle.mp_schema.specs.Instances.{all_pass}
-use Rattle.mp_schema.specs.Limits.{few_of, few_of_item, few_of_schema, is_shallow_item, is_shallow_schema, is_small_schema, item_depth_of, pattern_depth_of, schema_size_of}
+use Rattle.mp_schema.specs.Limits.{few_of, few_of_item, few_of_schema, is_shallow_item, is_shallow_schema, is_small_schema, item_depth_of, pattern_depth_of}
 use Rattle.mp_schema.specs.Faults.{all_listed, are_distinct, is_closed, is_listed, is_single, item_closed, item_listed, lists_apart, on_variables}
 use Rattle.mp_schema.specs.Occurrences.{Occurrence, variable_level, occurrences_in, occurrences_in_item, occurrences_in_schema}
 use Rattle.mp_schema.proofs.Names.{has-append}
@@ -32,6 +31,7 @@ use Rattle.mp_theorytext.specs.Scopes.{context_in, contexts_of, contexts_past, e
 use Rattle.mp_theorytext.specs.Nodes.{argument_of, dangling_faults, node_faults, use_faults}
 use Rattle.mp_theorytext.specs.Values.{each_pattern_value, pattern_of, item_of, items_of, schema_of}
 use Rattle.mp_theorytext.specs.Statics.{conclusion_faults, frame_faults, item_at, item_faults, items_faults, misplaced_faults, premise_faults, raw_schema_size_of, schema_faults}
+use Rattle.mp_theorytext.proofs.FaultWalks.{syms_both}
 use Rattle.mp_theorytext.proofs.Fitting.{Fit, FitOf, each_told, is_used_well, nodes_told, use_kept, use_test, use_told}
 use Rattle.mp_theorytext.proofs.SizesAndHoles.{schema_size}
 use Rattle.mp_theorytext.proofs.Telling.{Tells, tells_both, tells_by, tells_if, tells_past, tells_then, tells_unless}
@@ -72,9 +72,9 @@ or_and : (b x y : Bool) → (b || x) ≡ true → (b || y) ≡ true → (b || (x
 or_and true x y h k = refl
 or_and false x y h k = and_from x y h k
 
-or_parts : (b x y : Bool) → (b || (x && y)) ≡ true → ((b || x) ≡ true) × ((b || y) ≡ true)
-or_parts true x y h = (refl, refl)
-or_parts false x y h = and_parts x y h
+or_and_parts : (b x y : Bool) → (b || (x && y)) ≡ true → ((b || x) ≡ true) × ((b || y) ≡ true)
+or_and_parts true x y h = (refl, refl)
+or_and_parts false x y h = and_parts x y h
 
 -- what is asked of occurrences, in its parts
 record UsedWell (known : List Sym) (final : Bool) (os : List Occurrence) : Type 0 where
@@ -101,7 +101,7 @@ module _ (known : List Sym) (final : Bool) where
   well_used (o ∷ os) h =
       let listed = and_parts (has_all known o.ctxs) (all_listed known os) h.listed in
       let apart = and_parts (is_apart o.ctxs) (lists_apart os) h.apart in
-      let distinct = or_parts (not final) (are_distinct o.levels) (on_variables os) h.distinct in
+      let distinct = or_and_parts (not final) (are_distinct o.levels) (on_variables os) h.distinct in
       and_from _ _ (and_from _ _ (and_from _ _ listed.0 apart.0) distinct.0) (well_used os (record { listed = listed.1; apart = apart.1; distinct = distinct.1 }))
 
 -- ## Items
@@ -142,7 +142,7 @@ module _ (final : Bool) where
       let closed = and_parts (item_closed i b) (each_item item_closed is (past i b)) h.keeps_closed in
       let listed = and_parts (item_listed i b) (each_item item_listed is (past i b)) h.keeps_listed in
       let apart = and_parts (lists_apart os) (lists_apart ps) (sym (list_all-append (λ (o : Occurrence). is_apart o.ctxs) os ps) ∙ h.keeps_apart) in
-      let distinct = or_parts (not final) (on_variables os) (on_variables ps) (ap (λ t. not final || t) (sym (list_all-append (λ (o : Occurrence). are_distinct o.levels) os ps)) ∙ h.keeps_distinct) in (
+      let distinct = or_and_parts (not final) (on_variables os) (on_variables ps) (ap (λ t. not final || t) (sym (list_all-append (λ (o : Occurrence). are_distinct o.levels) os ps)) ∙ h.keeps_distinct) in (
         record { keeps_shallow = shallow.0; keeps_few = few.0; keeps_closed = closed.0; keeps_listed = listed.0; keeps_apart = apart.0; keeps_distinct = distinct.0 },
         record { keeps_shallow = shallow.1; keeps_few = few.1; keeps_closed = closed.1; keeps_listed = listed.1; keeps_apart = apart.1; keeps_distinct = distinct.1 },
       )
@@ -237,10 +237,6 @@ stands_behind : (is : List RawItem) (known env : List Sym) (b : Before) → Stan
 unfolding known_behind
 stands_behind [] known env b s = s
 stands_behind (i ∷ is) known env b s = stands_behind is (contexts_past i known) (env_past i env) (past (item_of i env) b) (stands_past known env b i s)
-
-syms_both : (xs ys : List RawName) → syms_of (xs ++ ys) ≡ syms_of xs ++ syms_of ys
-syms_both [] ys = refl
-syms_both (x ∷ xs) ys = ap (λ ns. x.name ∷ ns) (syms_both xs ys)
 
 all_known : (is : List RawItem) (known : List Sym) → known_behind is known ≡ known ++ syms_of (flat_map context_in is)
 unfolding known_behind
@@ -349,7 +345,7 @@ module _ (final : Bool) (s : RawSchema) where
       let listed = and_parts (each_item item_listed items nothing_before) (all_listed end.contexts ps) k.listed in
       let single = and_parts (is_apart (context_names (schema_of s))) (lists_apart (os ++ ps)) k.single in
       let apart = and_parts (lists_apart os) (lists_apart ps) (sym (list_all-append (λ (o : Occurrence). is_apart o.ctxs) os ps) ∙ single.1) in
-      let distinct = or_parts (not final) (on_variables os) (on_variables ps) (ap (λ t. not final || t) (sym (list_all-append (λ (o : Occurrence). are_distinct o.levels) os ps)) ∙ k.distinct) in (
+      let distinct = or_and_parts (not final) (on_variables os) (on_variables ps) (ap (λ t. not final || t) (sym (list_all-append (λ (o : Occurrence). are_distinct o.levels) os ps)) ∙ k.distinct) in (
         (
           (
             (ap (λ n. nat_le n 200) (sym many) ∙ counted.0, ap is_apart (sym (contexts_are s)) ∙ single.0),

@@ -1,5 +1,5 @@
 -- Faults that are told exactly where something isn't kept, but for those of variables that aren't bound.
-use Rattle.std.proofs.Common.{◌≡◌, ℕ, ◌≤◌, ◌++◌, List, [], ◌∷◌, length, Bool, true, false, not, nat_le, nat_lt, Option, None, Some, slice_get, refl, sym, subst, ap, ◌∙◌, inl, inr, arith, true≢false}
+use Rattle.std.proofs.Common.{◌≡◌, ℕ, ◌++◌, List, [], ◌∷◌, length, Bool, true, false, not, nat_le, Option, None, Some, slice_get, refl, sym, subst, ap, ◌∙◌, inl, inr, arith, true≢false}
 use Rattle.std.specs.List.{list_all, flat_map}
 use Rattle.std.proofs.lemmas.Bool.{and_parts, and_from}
 use Rattle.std.proofs.lemmas.Bool.Decides.{nat_tests}

@@ -1,6 +1,6 @@
 -- Names that are given twice are told exactly where some names aren't apart.
-use Rattle.std.proofs.Common.{◌≡◌, ℕ, ◌++◌, List, [], ◌∷◌, map, Bool, true, false, ◌&&◌, ◌||◌, not, nat_eq, refl, ap, sym, subst, ◌∙◌, arith, true≢false}
-use Rattle.std.specs.List.{list_all, flat_map}
+use Rattle.std.proofs.Common.{◌≡◌, ℕ, ◌++◌, List, [], ◌∷◌, map, Bool, true, false, ◌&&◌, ◌||◌, not, nat_eq, refl, ap, sym, ◌∙◌, arith, true≢false}
+use Rattle.std.specs.List.{list_all}
 use Rattle.std.proofs.lemmas.Bool.{and_parts, and_from}
 use Rattle.std.proofs.lemmas.Bool.Decides.{nat_tests}
 use Rattle.mp_logic.specs.declared.sym.Sym.{Sym}
@@ -22,11 +22,11 @@ same_name a b e = let k : a.0 ≡ b.0 = grind (arith, nat_tests, e) in ap (λ (n
 pub eq_itself : (n : ℕ) → nat_eq n n ≡ true
 eq_itself n = grind (arith, nat_tests)
 
-or_parts : (a b : Bool) → (a || b) ≡ false → (a ≡ false) × (b ≡ false)
+pub or_parts : (a b : Bool) → (a || b) ≡ false → (a ≡ false) × (b ≡ false)
 or_parts true b e = absurd (true≢false e)
 or_parts false b e = (refl, e)
 
-or_no : (a b : Bool) → a ≡ false → b ≡ false → (a || b) ≡ false
+pub or_no : (a b : Bool) → a ≡ false → b ≡ false → (a || b) ≡ false
 or_no true b e f = absurd (true≢false e)
 or_no false b e f = f
 

@@ -1,10 +1,8 @@
 -- What the static rules on rules as they are written have to do with those on the rules that they stand for.
-use Rattle.std.specs.Prelude.{◌≡◌, ◌↔◌, ℕ, List, [], map, Bool, true, false, not, None, Ok, IsTrue}
+use Rattle.std.specs.Prelude.{◌≡◌, ◌↔◌, ℕ, List, [], map, not, None, Ok, IsTrue}
 use Rattle.std.specs.List.{list_all}
 use Rattle.mp_schema.specs.Faults.{rule_fault_of}
 use Rattle.mp_theory.specs.Tables.{IsTheory, Laws}
-use Rattle.mp_words.specs.declared.fail.TextWhy.{TextWhy}
-use Rattle.mp_words.specs.declared.fail.TextWhy.TheVariants as why
 use Rattle.mp_words.specs.declared.fail.TextErr.{TextErr}
 use Rattle.mp_schematext.specs.declared.raw.RawRule.{RawRule}
 use Rattle.mp_theorytext.specs.Reading.{ReadsTheory}

@@ -8,7 +8,7 @@ use Rattle.mp_theorytext.specs.declared.uses.Place.{Place}
 use Rattle.mp_theorytext.specs.Scopes.{syms_of}
 use Rattle.mp_theorytext.specs.Uses.{Use, first_use}
 
--- what stands at the place
+-- the use that a place in what is written is
 abbrev pub use_at : Place → Use
 use_at p = record { is_context = p.is_context; name = p.name; at = p.at; ctxs = syms_of p.ctxs.now; arity = length p.args.now }
 

@@ -70,7 +70,7 @@ abbrev pub items_faults : List Sym → Bool → List RawItem → List Sym → Li
 items_faults known in_conclusion [] env = []
 items_faults known in_conclusion (i ∷ is) env = item_faults known in_conclusion i env ++ items_faults (contexts_past i known) in_conclusion is (env_past i env)
 
--- each named hypothesis stands after exactly one context, if so many stand before these items
+-- the faults of named hypotheses that don't stand after exactly one context; so many contexts stand before these items
 abbrev pub misplaced_faults : ℕ → List RawItem → List TextErr
 misplaced_faults before [] = []
 misplaced_faults before (item.Ctx name ctxs args at ∷ is) = misplaced_faults (before + 1) is

@@ -68,11 +68,11 @@ uses_in_rule r = flat_map uses_in_schema r.premises ++ uses_in_schema r.concl
 abbrev pub first_use : List Use → Sym → Option Use
 first_use us name = find (λ u. nat_eq u.name.0 name.0) us
 
--- both are of contexts or both of second-order variables, with the same list of contexts and as many arguments
+-- two uses are both of contexts or both of second-order variables, with the same list of contexts and as many arguments
 abbrev pub is_like_use : Use → Use → Bool
 is_like_use first u = same_bool first.is_context u.is_context && same_names first.ctxs u.ctxs && nat_eq first.arity u.arity
 
--- there is a first one, and the other is like it
+-- a first use is there, and a use is like it
 abbrev pub is_like_first_use : Option Use → Use → Bool
 is_like_first_use None u = false
 is_like_first_use (Some first) u = is_like_use first u

@@ -1,5 +1,5 @@
 -- What patterns, schemata and rules stand for that are written.
-use Rattle.std.specs.Prelude.{ℕ, ◌++◌, List, [], ◌∷◌, length, map, unwrap_or}
+use Rattle.std.specs.Prelude.{◌++◌, List, [], ◌∷◌, length, map, unwrap_or}
 use Rattle.mp_logic.specs.declared.sym.Sym.{Sym}
 use Rattle.mp_schema.specs.declared.pattern.Pattern.{Pattern, Var, Op, Meta}
 use Rattle.mp_schema.specs.declared.pattern.ParamPat.{ParamPat}

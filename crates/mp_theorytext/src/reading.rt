@@ -16,6 +16,7 @@ use std::alloc::Global;
 /// it ends too early; else the least static one, which is Taken, TooMany, TooDeep, TooBig, UnboundVar, DanglingContext,
 /// TwiceContext, TooManyContexts, MisplacedHyp, NotAPattern, BadUse or UnboundParam. Earlier names keep their numbers, and
 /// at most as many are added as the text has bytes, also where the text is refused.
+/// The names that are held and the bytes are together fewer than 2^32 - 1, and so are the laws that are held and the bytes.
 pub fn read_theory(
     alloc: Global,
     names: &mut Names,

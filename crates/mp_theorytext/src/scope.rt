@@ -34,7 +34,7 @@ fn is_second(held: Option<TextErr>, earlier: &[RawName], name: RawName) -> bool
 }
 
 /// The soonest of the fault that is held and those of contexts that aren't among the known ones.
-// The time is linear: behind the ninth context of a list, and the 200th item of a schema, there is a fault that is held.
+// The time is linear: behind the ninth context of a list, and the 201st item of a schema, there is a fault that is held.
 pub(crate) fn check_known(
     held: Option<TextErr>,
     known: &[RawName],

@@ -1,4 +1,4 @@
-use Rattle.std.proofs.Common.{◌≡◌, ◌∙◌, ◌<◌, ap, is_some, false, None, sym, arith, rules}
+use Rattle.std.proofs.Common.{◌≡◌, ◌∙◌, ◌<◌, ap, is_some, None, sym, arith, rules}
 use Rattle.mp_schema.specs.Faults.{rewrite_fault_of}
 use Rattle.mp_schema.specs.Values.{instance_of}
 use Rattle.mp_tests.proofs.Rewriting.{none_from, redex_fine, redex_plain, contractum_closed, contractum_plain, contractum_fits, contractum_narrow}

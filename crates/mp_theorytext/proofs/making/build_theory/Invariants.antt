@@ -1,4 +1,4 @@
-use Rattle.std.proofs.Common.{◌≡◌, ◌+◌, [], drop, length}
+use Rattle.std.proofs.Common.{◌≡◌, ◌+◌, [], drop}
 use Rattle.mp_theory.specs.Tables.{law_count}
 use Rattle.mp_theorytext.specs.Statics.{theory_faults}
 use Rattle.mp_theorytext.specs.Values.{with_rules}

@@ -1,7 +1,7 @@
 use Rattle.std.proofs.Common.{arith}
 use Rattle.std.proofs.lemmas.List.{length-map}
 use Rattle.mp_theorytext.specs.Scopes.{syms_of}
-use Rattle.mp_theorytext.proofs.FirstUseSteps.{other_lengths}
+use Rattle.mp_theorytext.proofs.SameNames.{other_lengths}
 use Rattle.mp_theorytext.proofs.uses.are_same_names.Goals as goal
 
 pub returns-then-names-others : goal.returns-then-names-others

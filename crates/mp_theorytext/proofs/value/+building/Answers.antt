@@ -37,7 +37,7 @@ build_args-loop-arg-preserved t c =
     let x = c.arg-item.result in
     let env = c.args.env.now.items in
     record {
-      kept = c.in_ok-pattern.ensures.env ∙ c.loop-arg.invariant.kept;
+      kept = ◌∙◌ {A = List Sym} c.in_ok-pattern.ensures.env c.loop-arg.invariant.kept;
       faultless = (first_argument xs i x env c.loop-arg.env.items c.loop-arg-test.true c.arg-item.is c.loop-arg.invariant.kept c.loop-arg.invariant.faultless).1;
       built = values_built pattern_of xs i x c.in_ok-pattern.pattern c.loop-arg.built c.push.new.self _ env c.loop-arg.env.items c.loop-arg-test.true c.arg-item.is c.loop-arg.invariant.kept c.in_ok-pattern.ensures.value c.in_default.ensures.ok c.loop-arg.invariant.built;
     }
@@ -68,7 +68,7 @@ build_bounds-loop-sub-preserved t c =
     let k = c.sub-item.result in
     let env = c.args.env.now.items in
     record {
-      kept = c.in_ok-bound.ensures.env ∙ c.loop-sub.invariant.kept;
+      kept = ◌∙◌ {A = List Sym} c.in_ok-bound.ensures.env c.loop-sub.invariant.kept;
       faultless = (first_bound ks i k env c.loop-sub.env.items c.loop-sub-test.true c.sub-item.is c.loop-sub.invariant.kept c.loop-sub.invariant.faultless).1;
       built = values_built bound_of ks i k c.in_ok-bound.bound c.loop-sub.built c.push.new.self _ env c.loop-sub.env.items c.loop-sub-test.true c.sub-item.is c.loop-sub.invariant.kept c.in_ok-bound.ensures.value c.in_default.ensures.ok c.loop-sub.invariant.built;
     }

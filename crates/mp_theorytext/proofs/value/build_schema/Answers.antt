@@ -1,4 +1,4 @@
-use Rattle.std.proofs.Common.{ap, ◌∙◌}
+use Rattle.std.proofs.Common.{◌∙◌}
 use Rattle.mp_theorytext.specs.Scopes.{env_behind}
 use Rattle.mp_theorytext.proofs.Narrow.{schema_concl, schema_items}
 use Rattle.mp_theorytext.proofs.value.build_schema.Goals as goal
