@@ -7,12 +7,12 @@ cd "$(dirname "$0")/.."
 copy=$(mktemp -d)
 trap 'rm -rf "$copy"' EXIT
 mkdir "$copy/crates"
-for crate in logic lex names term subst words termtext schema theory schematext theorytext; do
+for crate in logic lex names term subst words termtext schema theory patterntext schematext theorytext; do
     cp -a "crates/mp_$crate" "$copy/crates"
 done
 mkdir -p "$copy/crates/bench_theories/src"
 cp bench/theories_main.rt.txt "$copy/crates/bench_theories/src/main.rt"
-grep -E '^mp_(logic|lex|names|term|subst|words|termtext|schema|theory|schematext|theorytext):' crates.txt > "$copy/crates.txt"
+grep -E '^mp_(logic|lex|names|term|subst|words|termtext|schema|theory|patterntext|schematext|theorytext):' crates.txt > "$copy/crates.txt"
 printf 'bench_theories: mp_theorytext mp_theory mp_names mp_logic anyhow\n' >> "$copy/crates.txt"
 for kind in rules few distinct; do
     for size in 262144 524288 1048576; do

@@ -10,6 +10,7 @@ use Rattle.mp_logic.specs.declared.sym.Sym.{Sym}
 use Rattle.mp_term.specs.declared.term.Term.{Term, Var}
 use Rattle.mp_term.specs.Terms.{all_true}
 use Rattle.mp_term.specs.Limits.{few_binders_of, sequent_few_binders_of}
+use Rattle.mp_term.proofs.EqualTerms.{both_true}
 use Rattle.mp_term.proofs.Layers.{few_bound, few-Var, few-Op, few_bound-is}
 use Rattle.mp_term.specs.Subst.{variables, upto}
 use Rattle.mp_term.proofs.BinderLaws.{few-sub}
@@ -20,7 +21,7 @@ use Rattle.mp_schema.specs.declared.pattern.PBound.{PBound}
 use Rattle.mp_schema.specs.declared.schema.Item.{Item}
 use Rattle.mp_schema.specs.declared.schema.Item.TheVariants.{Ctx, Hyp}
 use Rattle.mp_schema.specs.declared.schema.Schema.{Schema}
-use Rattle.mp_schema.specs.Induction.{OfEachBody, OfEachArg, each_pattern}
+use Rattle.mp_schema.specs.Induction.{OfEachBody, OfEachArg, each_pattern, of_each_arg}
 use Rattle.mp_schema.specs.Instances.{Ground, inst_of, inst_bound, made_each, all_pass}
 use Rattle.mp_schema.specs.Limits.{few_of, few_of_bound, few_of_item, few_of_schema}
 use Rattle.mp_schema.specs.Sequents.{Instance, Spot, first_spot, ground_at, telescope, hyps_of, behind, hyps_from, behind_all, seq}
@@ -81,9 +82,8 @@ module _ (v : Instance) (few : HasFewBinders v) where
         AllFew (made_each (map (inst_of before v.values) args) (map Var levels) m)
     few_args [] levels m h f = λ k d low. absurd (omega arith)
     few_args (a ∷ args) levels m h f =
-        let own : IsTrue (few_of a) = grind (arith, common_steps) in
-        let rest : IsTrue (all_pass (map few_of args)) = grind (arith, common_steps) in
-        few-cons _ _ (h.0 levels m own) (few_args args levels m h.1 rest)
+        let k = both_true (few_of a) (all_pass (map few_of args)) f in
+        few-cons _ _ (h.0 levels m k.0) (few_args args levels m h.1 k.1)
 
     few_meta : (n : Sym) (cs : List Sym) (args : List Pattern) → OfEachArg IsFew args → IsFew (pat.Meta n cs args)
     few_meta n cs args h levels m f =
@@ -94,12 +94,8 @@ module _ (v : Instance) (few : HasFewBinders v) where
     few-inst : (p : Pattern) → IsFew p
     few-inst = each_pattern IsFew few_var few_op few_meta
 
-    each_few : (args : List Pattern) → OfEachArg IsFew args
-    each_few [] = tt
-    each_few (a ∷ args) = (few-inst a, each_few args)
-
     few-args : (args : List Pattern) (levels : List ℕ) (m : ℕ) → IsTrue (all_pass (map few_of args)) → AllFew (made_each (map (inst_of before v.values) args) (map Var levels) m)
-    few-args args levels m f = few_args args levels m (each_few args) f
+    few-args args levels m f = few_args args levels m (of_each_arg IsFew few-inst args) f
 
   few-telescope : (l : Spot) (cs : List Sym) (args : List Pattern) (j : ℕ) (ts : List Term) → IsTrue (all_pass (map few_of args)) → AllFew ts →
       IsTrue (list_all few_binders_of (telescope v l cs args l.next j ts))
@@ -121,10 +117,9 @@ module _ (v : Instance) (few : HasFewBinders v) where
   few-hyps : (is : List Item) (l : Spot) → IsTrue (list_all few_of_item is) → IsTrue (list_all few_binders_of (hyps_from v is l))
   few-hyps [] l f = refl
   few-hyps (i ∷ is) l f =
-      let own : IsTrue (few_of_item i) = grind (arith, common_steps) in
-      let others : IsTrue (list_all few_of_item is) = grind (arith, common_steps) in
-      let first = few-item i l own in
-      let rest = few-hyps is (behind v i l) others in
+      let k = both_true (few_of_item i) (list_all few_of_item is) f in
+      let first = few-item i l k.0 in
+      let rest = few-hyps is (behind v i l) k.1 in
       let both = list_all-append few_binders_of (hyps_of v i l) (hyps_from v is (behind v i l)) in
       grind (arith, common_steps, first, rest, both)
 

@@ -1,6 +1,6 @@
 -- What building asks of a pattern, it asks of the pattern's parts; and what a substitution asks follows.
-use Rattle.std.proofs.Common.{◌≡◌, ℕ, ◌+◌, ◌-◌, ◌<◌, ◌≤◌, List, [], ◌∷◌, ◌++◌, length, map, get_or, drop, IsTrue, zero, suc, refl, ap, subst, inl, inr, ◌⊎◌, arith}
-use Rattle.std.specs.Prelude.{Bool, true, false, nat_eq, if◌then◌else◌}
+use Rattle.std.proofs.Common.{◌≡◌, ℕ, ◌+◌, ◌-◌, ◌<◌, ◌≤◌, List, [], ◌∷◌, ◌++◌, length, map, get_or, drop, IsTrue, zero, suc, true, refl, inl, inr, ◌⊎◌, arith}
+use Rattle.std.specs.Prelude.{nat_eq, if◌then◌else◌}
 use Rattle.std.proofs.lemmas.Bool.Decides.{nat_tests}
 use Rattle.std.proofs.lemmas.Grind.{common_steps}
 use Rattle.std.proofs.lemmas.List.{append_assoc, length_push}
@@ -9,6 +9,7 @@ use Rattle.mp_term.specs.declared.term.Term.{Term, Var}
 use Rattle.mp_term.specs.declared.term.Bound.{Bound}
 use Rattle.mp_term.specs.Terms.{in_scope_of}
 use Rattle.mp_term.specs.Subst.{widest_of, occurs_in}
+use Rattle.mp_term.proofs.EqualTerms.{decided, both_true, same_name}
 use Rattle.mp_term.proofs.SubLaws.{drop-at}
 use Rattle.mp_term.proofs.Laws.{width_after_substitution}
 use Rattle.mp_schema.specs.declared.pattern.Pattern.{Pattern}
@@ -16,32 +17,19 @@ use Rattle.mp_schema.specs.declared.pattern.Pattern as pat
 use Rattle.mp_schema.specs.declared.pattern.PBound.{PBound}
 use Rattle.mp_schema.specs.Instances.{fits, fits_bound, all_pass}
 use Rattle.mp_schema.specs.Sequents.{Instance, Spot, ground_at, wide_of}
-use Rattle.mp_schema.specs.Conditions.{below_bound, lists_known, lists_known_bound, has, has_all}
+use Rattle.mp_schema.specs.Conditions.{below_bound, lists_known, lists_known_bound, has, has_all, is_apart, is_known}
+use Rattle.mp_schema.proofs.UseKinds.{has_all-has}
 use Rattle.mp_schema.proofs.Layers.{fits-Meta, fits_bound-is, below-Meta, below_bound-is, lists_known-Meta, lists_known_bound-is}
 use Rattle.mp_build.specs.Sites.{IsBuildable, AreBuildableBodies, AreBuildableArgs, IsSubstitutable, made_at, bodies_at, used_terms, the_blank}
 use Rattle.mp_build.proofs.Layers.{room-Meta, room_bound-is}
 use Rattle.mp_build.proofs.RoomFacts.{widest-ge}
 use Rattle.mp_build.proofs.Placed.{bound_at, used-placed, terms_placed}
 
-pub one-sym : (x c : Sym) → x.0 ≡ c.0 → x ≡ c
-one-sym x c e = let named : ℕ → Sym = λ n. record { 0 = n } in ap named e
-
 pub has-first : (x : Sym) (cs : List Sym) (c : Sym) → IsTrue (has (x ∷ cs) c) → (x ≡ c) ⊎ IsTrue (has cs c)
-has-first x cs c is = go (nat_eq x.0 c.0) refl where
-  go : (b : Bool) → nat_eq x.0 c.0 ≡ b → (x ≡ c) ⊎ IsTrue (has cs c)
-  go true same = inl (one-sym x c (grind (arith, nat_tests, same)))
-  go false other = inr (grind (arith, common_steps, other, is))
-
--- a name of the list is one of the known ones
-pub known-of : (known cs : List Sym) (c : Sym) → IsTrue (has_all known cs) → IsTrue (has cs c) → IsTrue (has known c)
-known-of known [] c h is = absurd (cc)
-known-of known (x ∷ cs) c h is =
-    let first : IsTrue (has known x) = grind (arith, common_steps) in
-    let rest : IsTrue (has_all known cs) = grind (arith, common_steps) in
-    elim (has-first x cs c is) [
-      | inl same ↦ subst (λ y. IsTrue (has known y)) same first
-      | inr later ↦ known-of known cs c rest later
-    ]
+has-first x cs c is = elim (decided (nat_eq x.0 c.0)) [
+  | inl same ↦ inl (same_name x c same)
+  | inr other ↦ inr (grind (arith, common_steps, other, is))
+]
 
 pub has-at : (cs : List Sym) (i : ℕ) (d : Sym) → i < length cs → IsTrue (has cs (get_or cs i d))
 has-at [] i d h = absurd (omega arith)
@@ -139,7 +127,7 @@ module _ (v : Instance) (l : Spot) (base : ℕ) where
   contexts_made p n cs args m is r c h =
       let k = rw (is, lists_known-Meta) at r.listed in
       let listed : IsTrue (has_all r.known cs) = grind (arith, common_steps, k) in
-      r.spot.made c (known-of r.known cs c listed h)
+      r.spot.made c (has_all-has r.known cs c listed h)
 
   pub substitutable : (p : Pattern) (n : Sym) (cs : List Sym) (args : List Pattern) (m : ℕ) (terms : List Term) → p ≡ pat.Meta n cs args → IsBuildable v l base p m →
       terms ≡ map Var (ground_at v l.pos cs) ++ used_terms v l base (v.values.meta n) (wide_of v cs) args m → IsSubstitutable (v.values.meta n) terms m
@@ -148,14 +136,12 @@ module _ (v : Instance) (l : Spot) (base : ℕ) where
       let f = rw (is, fits-Meta) at r.fitting in
       let b = rw (is, below-Meta) at r.closed in
       let w = rw (is, room-Meta) at r.narrow in
-      let k0 : IsTrue (has_all r.known cs) = grind (arith, common_steps, k) in
-      let k1 : IsTrue (all_pass (map (lists_known r.known) args)) = grind (arith, common_steps, k) in
-      let f0 : IsTrue (in_scope_of (v.values.meta n) (wide_of v cs + length args)) = grind (arith, common_steps, f) in
-      let f1 : IsTrue (all_pass (map (fits (wide_of v) v.values) args)) = grind (arith, common_steps, f) in
-      let roomed = used-placed v l base r.known r.spot r.outer (v.values.meta n) (wide_of v cs) args m r.inner b f1 k1 in
-      let placed = terms_placed v l base r.known r.spot r.outer cs _ args m r.inner k0 roomed in
+      let ks = both_true (is_known r.known cs) (all_pass (map (lists_known r.known) args)) k in
+      let fs = both_true (in_scope_of (v.values.meta n) (wide_of v cs + length args)) (all_pass (map (fits (wide_of v) v.values) args)) f in
+      let roomed = used-placed v l base r.known r.spot r.outer (v.values.meta n) (wide_of v cs) args m r.inner (b, fs.1, ks.1) in
+      let placed = terms_placed v l base r.known r.spot r.outer cs _ args m r.inner (both_true (has_all r.known cs) (is_apart cs) ks.0).0 roomed in
       let many : length terms ≡ wide_of v cs + length args = rw e placed.2 in
-      let scoped : IsTrue (in_scope_of (v.values.meta n) (length terms)) = rw many f0 in
+      let scoped : IsTrue (in_scope_of (v.values.meta n) (length terms)) = rw many fs.0 in
       let wide = rw (← e) at placed.1 in
       let grown = width_after_substitution terms m (v.values.meta n) scoped in
       let own = widest-ge (v.values.meta n) (wide_of v cs + length args) in

@@ -10,6 +10,7 @@ use Rattle.mp_logic.specs.declared.sym.Sym.{Sym}
 use Rattle.mp_term.specs.declared.term.Term.{Term}
 use Rattle.mp_term.specs.Terms.{all_at_scope}
 use Rattle.mp_term.specs.Limits.{in_scopes_from}
+use Rattle.mp_term.proofs.EqualTerms.{both_true, and_true}
 use Rattle.mp_term.proofs.SubLaws.{drop-at}
 use Rattle.mp_schema.specs.declared.pattern.Pattern.{Pattern}
 use Rattle.mp_schema.specs.declared.schema.Item.{Item}
@@ -17,7 +18,7 @@ use Rattle.mp_schema.specs.declared.schema.Item.TheVariants.{Ctx, Hyp}
 use Rattle.mp_schema.specs.declared.schema.Schema.{Schema}
 use Rattle.mp_schema.specs.Instances.{all_pass}
 use Rattle.mp_schema.specs.Sequents.{Instance, Spot, first_spot, wide_of, hyps_of, behind, hyps_from, behind_all, concl_at, seq}
-use Rattle.mp_schema.specs.Conditions.{below, lists_known, has, has_all, Before, nothing_before, past, all_placed}
+use Rattle.mp_schema.specs.Conditions.{below, lists_known, has, has_all, Before, nothing_before, past, pattern_placed, all_placed}
 use Rattle.mp_build.specs.Rooms.{items_room}
 use Rattle.mp_build.specs.Sites.{IsBefore, IsRowBuildable, IsItemBuildable, AreItemsBuildable, made_at}
 use Rattle.mp_build.specs.Sizes.{item_count}
@@ -29,12 +30,10 @@ pub all_placed-parts : (ps : List Pattern) (b : Before) → IsTrue (all_placed p
     IsTrue (all_at_scope b.named (map below ps)) × IsTrue (all_pass (map (lists_known b.contexts) ps))
 all_placed-parts [] b h = (refl, refl)
 all_placed-parts (p ∷ ps) b h =
-    let rest : IsTrue (all_placed ps b) = grind (arith, common_steps) in
-    let first : IsTrue (below p b.named) = grind (arith, common_steps) in
-    let second : IsTrue (lists_known b.contexts p) = grind (arith, common_steps) in
-    let parts = all_placed-parts ps b rest in
-    let one = parts.0 in
-    let two = parts.1 in (grind (arith, common_steps, first, one), grind (arith, common_steps, second, two))
+    let k = both_true (pattern_placed p b) (all_placed ps b) h in
+    let here = both_true (below p b.named) (lists_known b.contexts p) k.0 in
+    let parts = all_placed-parts ps b k.1 in
+    (and_true (below p b.named) (all_at_scope b.named (map below ps)) here.0 parts.0, and_true (lists_known b.contexts p) (all_pass (map (lists_known b.contexts) ps)) here.1 parts.1)
 
 module _ (v : Instance) where
   items_room-ge : (is : List Item) (concl : Pattern) (m : ℕ) → m ≤ items_room v is concl m

@@ -7,6 +7,7 @@ use Rattle.std.proofs.lemmas.Grind.{common_steps}
 use Rattle.mp_logic.specs.declared.sym.Sym.{Sym}
 use Rattle.mp_term.specs.declared.term.Term.{Term, Var}
 use Rattle.mp_logic.specs.Lists.{greatest}
+use Rattle.mp_term.proofs.EqualTerms.{both_true}
 use Rattle.mp_term.proofs.Layers.{few-Var, depth-Var}
 use Rattle.mp_term.specs.Subst.{widest_of, widest_at}
 use Rattle.mp_term.proofs.Laws.{width_of_few_binders}
@@ -20,7 +21,7 @@ use Rattle.mp_schema.specs.declared.pattern.PBound.{PBound}
 use Rattle.mp_schema.specs.declared.schema.Item.{Item}
 use Rattle.mp_schema.specs.declared.schema.Item.TheVariants.{Ctx, Hyp}
 use Rattle.mp_schema.specs.declared.schema.Schema.{Schema}
-use Rattle.mp_schema.specs.Induction.{OfEachBody, OfEachArg, each_pattern}
+use Rattle.mp_schema.specs.Induction.{OfEachBody, OfEachArg, each_pattern, of_each_arg}
 use Rattle.mp_schema.specs.Instances.{all_pass}
 use Rattle.mp_schema.specs.Limits.{few_of, few_of_bound, few_of_item, few_of_schema, pattern_depth_of, pattern_depth_of_bound, is_shallow_item, is_shallow_pattern, is_shallow_schema}
 use Rattle.mp_schema.specs.Sequents.{Instance, wide_of}
@@ -80,10 +81,9 @@ module _ (v : Instance) (tame : IsTame v) where
       widest_at m (map (room (wide_of v) v.values) args) ≤ m + 14000 * greatest (map pattern_depth_of args)
   narrow_args [] m h f = omega arith
   narrow_args (a ∷ args) m h f =
-      let own : IsTrue (few_of a) = grind (arith, common_steps) in
-      let others : IsTrue (all_pass (map few_of args)) = grind (arith, common_steps) in
-      let here = h.0 m own in
-      let rest = narrow_args args m h.1 others in
+      let k = both_true (few_of a) (all_pass (map few_of args)) f in
+      let here = h.0 m k.0 in
+      let rest = narrow_args args m h.1 k.1 in
       omega (arith, here, rest)
 
   narrow_meta : (n : Sym) (cs : List Sym) (args : List Pattern) → OfEachArg IsNarrow args → IsNarrow (pat.Meta n cs args)
@@ -100,20 +100,16 @@ module _ (v : Instance) (tame : IsTame v) where
   narrow-pattern : (p : Pattern) → IsNarrow p
   narrow-pattern = each_pattern IsNarrow narrow_var narrow_op narrow_meta
 
-  each_narrow : (args : List Pattern) → OfEachArg IsNarrow args
-  each_narrow [] = tt
-  each_narrow (a ∷ args) = (narrow-pattern a, each_narrow args)
-
   -- a row of terms that isn't longer than it may be
   narrow-row : (cs : List Sym) (args : List Pattern) (c j : ℕ) (ts : List Term) → length cs ≤ 8 → length args ≤ 8 → IsTrue (all_pass (map few_of args)) →
       All IsTameTerm ts → telescope_room v cs args c j ts ≤ c + 2 * (j + length ts) + 14000 + 14000 * greatest (map pattern_depth_of args)
   narrow-row cs args c j [] cs_few args_few each all =
       let before = few-before cs cs_few in
-      let rest = narrow_args args (c + j) (each_narrow args) each in
+      let rest = narrow_args args (c + j) (of_each_arg IsNarrow narrow-pattern args) each in
       omega (arith, before, rest)
   narrow-row cs args c j (t ∷ ts) cs_few args_few each all =
       let before = few-before cs cs_few in
-      let rest = narrow_args args (c + j) (each_narrow args) each in
+      let rest = narrow_args args (c + j) (of_each_arg IsNarrow narrow-pattern args) each in
       let value = tame-width t (wide_of v cs + length args + j) (all 0 t (omega arith)) in
       let later = narrow-row cs args c (suc j) ts cs_few args_few each (λ k d low. all (suc k) d (omega arith)) in
       omega (arith, before, rest, value, later, args_few)
@@ -143,13 +139,11 @@ module _ (v : Instance) (tame : IsTame v) where
       let h = narrow-pattern concl m concl_few in
       omega (arith, deep, h)
   narrow-items (i ∷ is) concl m f shallow concl_few concl_shallow =
-      let own : IsTrue (few_of_item i) = grind (arith, common_steps) in
-      let others : IsTrue (list_all few_of_item is) = grind (arith, common_steps) in
-      let own_shallow : IsTrue (is_shallow_item i) = grind (arith, common_steps) in
-      let others_shallow : IsTrue (list_all is_shallow_item is) = grind (arith, common_steps) in
-      let first = narrow-item i m own own_shallow in
+      let k = both_true (few_of_item i) (list_all few_of_item is) f in
+      let d = both_true (is_shallow_item i) (list_all is_shallow_item is) shallow in
+      let first = narrow-item i m k.0 d.0 in
       let count = few-count i in
-      let rest = narrow-items is concl (m + item_count v i) others others_shallow concl_few concl_shallow in
+      let rest = narrow-items is concl (m + item_count v i) k.1 d.1 concl_few concl_shallow in
       omega (arith, first, count, rest)
 
   pub narrow-schema : (s : Schema) → IsTrue (few_of_schema s) → IsTrue (is_shallow_schema s) → schema_room v s < 2 ^ 31

@@ -6,6 +6,7 @@ use Rattle.std.proofs.lemmas.List.{length-map, length-append}
 use Rattle.mp_logic.specs.declared.sym.Sym.{Sym}
 use Rattle.mp_term.specs.declared.term.Term.{Term, Var}
 use Rattle.mp_term.specs.Terms.{in_scope_of, all_at_scope}
+use Rattle.mp_term.proofs.EqualTerms.{both_true}
 use Rattle.mp_term.proofs.Layers.{scoped_bound, in_scope-Var, in_scope-Op, scoped_bound-is, widest-Var, widest-Op, width_bound-is}
 use Rattle.mp_term.specs.Subst.{AreInScope, widest_of, widest_at, width_bound, widest_in, occurs_in}
 use Rattle.mp_term.proofs.Laws.{scope_after_substitution, width_after_substitution}
@@ -13,10 +14,10 @@ use Rattle.mp_schema.specs.declared.pattern.ParamPat.{ParamPat}
 use Rattle.mp_schema.specs.declared.pattern.Pattern.{Pattern}
 use Rattle.mp_schema.specs.declared.pattern.Pattern as pat
 use Rattle.mp_schema.specs.declared.pattern.PBound.{PBound}
-use Rattle.mp_schema.specs.Induction.{OfEachBody, OfEachArg, each_pattern}
+use Rattle.mp_schema.specs.Induction.{OfEachBody, OfEachArg, each_pattern, of_each_arg}
 use Rattle.mp_schema.specs.Instances.{inst_bound, fits, fits_bound, all_pass}
 use Rattle.mp_schema.specs.Sequents.{Instance, Spot, ground_at, wide_of}
-use Rattle.mp_schema.specs.Conditions.{below, below_bound, lists_known, lists_known_bound, has_all}
+use Rattle.mp_schema.specs.Conditions.{below, below_bound, lists_known, lists_known_bound, has_all, is_apart, is_known}
 use Rattle.mp_schema.proofs.Layers.{inst-Var, inst-Op, inst-Meta, inst_bound-is, fits-Op, fits-Meta, fits_bound-is, below-Var, below-Op, below-Meta, below_bound-is, lists_known-Op, lists_known-Meta, lists_known_bound-is}
 use Rattle.mp_build.specs.Rooms.{room, room_bound}
 use Rattle.mp_build.specs.Sites.{IsSpot, env_at, made_at, bodies_at, args_at, used_terms, the_blank}
@@ -55,13 +56,37 @@ module _ (v : Instance) (l : Spot) (base : ℕ) where
       rw env at is
 
   module _ (known : List Sym) (spot : IsSpot v l known) (outer : l.next ≤ base) where
+    -- what making patterns asks, whose variables are below n
+    abbrev pub Asked : Pattern → ℕ → Type 0
+    Asked p n = IsTrue (below p n) × IsTrue (fits (wide_of v) v.values p) × IsTrue (lists_known known p)
+
+    abbrev pub AskedBodies : List PBound → ℕ → Type 0
+    AskedBodies bs n = IsTrue (all_at_scope n (map below_bound bs)) × IsTrue (all_pass (map (fits_bound (wide_of v) v.values) bs)) × IsTrue (all_pass (map (lists_known_bound known) bs))
+
+    abbrev pub AskedArgs : List Pattern → ℕ → Type 0
+    AskedArgs args n = IsTrue (all_at_scope n (map below args)) × IsTrue (all_pass (map (fits (wide_of v) v.values) args)) × IsTrue (all_pass (map (lists_known known) args))
+
+    first_body : (b : PBound) (bs : List PBound) (n : ℕ) → AskedBodies (b ∷ bs) n → Asked b.body (n + b.binders) × AskedBodies bs n
+    first_body b bs n q =
+        let c = both_true (below_bound b n) (all_at_scope n (map below_bound bs)) q.0 in
+        let f = both_true (fits_bound (wide_of v) v.values b) (all_pass (map (fits_bound (wide_of v) v.values) bs)) q.1 in
+        let k = both_true (lists_known_bound known b) (all_pass (map (lists_known_bound known) bs)) q.2 in
+        ((rw below_bound-is at c.0, rw fits_bound-is at f.0, rw lists_known_bound-is at k.0), (c.1, f.1, k.1))
+
+    first_arg : (a : Pattern) (args : List Pattern) (n : ℕ) → AskedArgs (a ∷ args) n → Asked a n × AskedArgs args n
+    first_arg a args n q =
+        let c = both_true (below a n) (all_at_scope n (map below args)) q.0 in
+        let f = both_true (fits (wide_of v) v.values a) (all_pass (map (fits (wide_of v) v.values) args)) q.1 in
+        let k = both_true (lists_known known a) (all_pass (map (lists_known known) args)) q.2 in
+        ((c.0, f.0, k.0), (c.1, f.1, k.1))
+
     abbrev IsPlaced : Pattern → Type 0
-    IsPlaced p = (m : ℕ) → base ≤ m → IsTrue (below p (length l.env + (m - base))) → IsTrue (fits (wide_of v) v.values p) → IsTrue (lists_known known p) →
+    IsPlaced p = (m : ℕ) → base ≤ m → Asked p (length l.env + (m - base)) →
         IsTrue (in_scope_of (made_at v l base p m) m) × (widest_of (made_at v l base p m) m ≤ room (wide_of v) v.values p m)
 
     placed_var : (i : ℕ) → IsPlaced (pat.Var i)
-    placed_var i m h b f k =
-        let test = rw below-Var at b in
+    placed_var i m h q =
+        let test = rw below-Var at q.0 in
         let low : i < length l.env + (m - base) = grind (arith, nat_tests, test) in
         let found = env-at v l known base m i spot outer h low in
         let small = found.1 in
@@ -73,19 +98,13 @@ module _ (v : Instance) (l : Spot) (base : ℕ) where
         IsTrue (all_at_scope m (map scoped_bound (bodies_at v l base bs m))) ×
         (widest_at m (map width_bound (bodies_at v l base bs m)) ≤ widest_at m (map (room_bound (wide_of v) v.values) bs))
 
-    placed_bounds : (bs : List PBound) (m : ℕ) → OfEachBody IsPlaced bs → base ≤ m → IsTrue (all_at_scope (length l.env + (m - base)) (map below_bound bs)) →
-        IsTrue (all_pass (map (fits_bound (wide_of v) v.values) bs)) → IsTrue (all_pass (map (lists_known_bound known) bs)) → BodiesPlaced bs m
-    placed_bounds [] m h le b f k = (refl, omega arith)
-    placed_bounds (x ∷ bs) m h le b f k =
-        let b0 : IsTrue (below_bound x (length l.env + (m - base))) = grind (arith, common_steps) in
-        let b1 : IsTrue (all_at_scope (length l.env + (m - base)) (map below_bound bs)) = grind (arith, common_steps) in
-        let f0 : IsTrue (fits_bound (wide_of v) v.values x) = grind (arith, common_steps) in
-        let f1 : IsTrue (all_pass (map (fits_bound (wide_of v) v.values) bs)) = grind (arith, common_steps) in
-        let k0 : IsTrue (lists_known_bound known x) = grind (arith, common_steps) in
-        let k1 : IsTrue (all_pass (map (lists_known_bound known) bs)) = grind (arith, common_steps) in
+    placed_bounds : (bs : List PBound) (m : ℕ) → OfEachBody IsPlaced bs → base ≤ m → AskedBodies bs (length l.env + (m - base)) → BodiesPlaced bs m
+    placed_bounds [] m h le q = (refl, omega arith)
+    placed_bounds (x ∷ bs) m h le q =
+        let parts = first_body x bs (length l.env + (m - base)) q in
         let e : length l.env + (m - base) + x.binders ≡ length l.env + (m + x.binders - base) = omega arith in
-        let r = h.0 (m + x.binders) (omega arith) (rw (below_bound-is, e) at b0) (rw fits_bound-is at f0) (rw lists_known_bound-is at k0) in
-        let rest = placed_bounds bs m h.1 le b1 f1 k1 in
+        let r = h.0 (m + x.binders) (omega arith) (rw e at parts.0) in
+        let rest = placed_bounds bs m h.1 le parts.1 in
         let is = bound_at x m le in
         let first : IsTrue (scoped_bound (inst_bound (ground_at v l.pos) v.values x (env_at l base m) m) m) = rw (is, scoped_bound-is) r.0 in
         let second : width_bound (inst_bound (ground_at v l.pos) v.values x (env_at l base m) m) m ≤ room_bound (wide_of v) v.values x m =
@@ -95,25 +114,19 @@ module _ (v : Instance) (l : Spot) (base : ℕ) where
         (grind (arith, common_steps, first, s), omega (arith, second, w))
 
     placed_op : (o : Sym) (ps : List ParamPat) (bs : List PBound) → OfEachBody IsPlaced bs → IsPlaced (pat.Op o ps bs)
-    placed_op o ps bs h m le b f k =
-        let r = placed_bounds bs m h le (rw below-Op at b) (rw fits-Op at f) (rw lists_known-Op at k) in
+    placed_op o ps bs h m le q =
+        let r = placed_bounds bs m h le (rw below-Op at q.0, rw fits-Op at q.1, rw lists_known-Op at q.2) in
         (rw (inst-Op, in_scope-Op) r.0, rw (inst-Op, widest-Op, room-Op) r.1)
 
     abbrev ArgsPlaced : List Pattern → ℕ → Type 0
     ArgsPlaced args m = AreRoomed v (args_at v l base args m) args m
 
-    placed_args : (args : List Pattern) (m : ℕ) → OfEachArg IsPlaced args → base ≤ m → IsTrue (all_at_scope (length l.env + (m - base)) (map below args)) →
-        IsTrue (all_pass (map (fits (wide_of v) v.values) args)) → IsTrue (all_pass (map (lists_known known) args)) → ArgsPlaced args m
-    placed_args [] m h le b f k = (AreInScope-none m, let e = widest_in-none m in omega (arith, e), refl)
-    placed_args (x ∷ args) m h le b f k =
-        let b0 : IsTrue (below x (length l.env + (m - base))) = grind (arith, common_steps) in
-        let b1 : IsTrue (all_at_scope (length l.env + (m - base)) (map below args)) = grind (arith, common_steps) in
-        let f0 : IsTrue (fits (wide_of v) v.values x) = grind (arith, common_steps) in
-        let f1 : IsTrue (all_pass (map (fits (wide_of v) v.values) args)) = grind (arith, common_steps) in
-        let k0 : IsTrue (lists_known known x) = grind (arith, common_steps) in
-        let k1 : IsTrue (all_pass (map (lists_known known) args)) = grind (arith, common_steps) in
-        let r = h.0 m le b0 f0 k0 in
-        let rest = placed_args args m h.1 le b1 f1 k1 in
+    placed_args : (args : List Pattern) (m : ℕ) → OfEachArg IsPlaced args → base ≤ m → AskedArgs args (length l.env + (m - base)) → ArgsPlaced args m
+    placed_args [] m h le q = (AreInScope-none m, let e = widest_in-none m in omega (arith, e), refl)
+    placed_args (x ∷ args) m h le q =
+        let parts = first_arg x args (length l.env + (m - base)) q in
+        let r = h.0 m le parts.0 in
+        let rest = placed_args args m h.1 le parts.1 in
         let w = r.1 in
         let w' = rest.1 in
         let n = rest.2 in
@@ -135,17 +148,14 @@ module _ (v : Instance) (l : Spot) (base : ℕ) where
         )
 
     placed_meta : (n : Sym) (cs : List Sym) (args : List Pattern) → OfEachArg IsPlaced args → IsPlaced (pat.Meta n cs args)
-    placed_meta n cs args h m le b f k =
-        let fm = rw fits-Meta at f in
-        let km = rw lists_known-Meta at k in
-        let f0 : IsTrue (in_scope_of (v.values.meta n) (wide_of v cs + length args)) = grind (arith, common_steps, fm) in
-        let f1 : IsTrue (all_pass (map (fits (wide_of v) v.values) args)) = grind (arith, common_steps, fm) in
-        let k0 : IsTrue (has_all known cs) = grind (arith, common_steps, km) in
-        let k1 : IsTrue (all_pass (map (lists_known known) args)) = grind (arith, common_steps, km) in
-        let terms = terms_placed cs (args_at v l base args m) args m le k0 (placed_args args m h le (rw below-Meta at b) f1 k1) in
+    placed_meta n cs args h m le q =
+        let f = both_true (in_scope_of (v.values.meta n) (wide_of v cs + length args)) (all_pass (map (fits (wide_of v) v.values) args)) (rw fits-Meta at q.1) in
+        let k = both_true (is_known known cs) (all_pass (map (lists_known known) args)) (rw lists_known-Meta at q.2) in
+        let listed = (both_true (has_all known cs) (is_apart cs) k.0).0 in
+        let terms = terms_placed cs (args_at v l base args m) args m le listed (placed_args args m h le (rw below-Meta at q.0, f.1, k.1)) in
         let by : List Term = map Var (ground_at v l.pos cs) ++ args_at v l base args m in
         let many : length by ≡ wide_of v cs + length args = terms.2 in
-        let f0' : IsTrue (in_scope_of (v.values.meta n) (length by)) = rw many f0 in
+        let f0' : IsTrue (in_scope_of (v.values.meta n) (length by)) = rw many f.0 in
         let one = scope_after_substitution by m (v.values.meta n) terms.0 f0' in
         let two = rw many at (width_after_substitution by m (v.values.meta n) f0') in
         let wide = terms.1 in
@@ -154,27 +164,17 @@ module _ (v : Instance) (l : Spot) (base : ℕ) where
     pub inst-placed : (p : Pattern) → IsPlaced p
     inst-placed = each_pattern IsPlaced placed_var placed_op placed_meta
 
-    each_placed : (args : List Pattern) → OfEachArg IsPlaced args
-    each_placed [] = tt
-    each_placed (a ∷ args) = (inst-placed a, each_placed args)
-
-    pub args-placed : (args : List Pattern) (m : ℕ) → base ≤ m → IsTrue (all_at_scope (length l.env + (m - base)) (map below args)) →
-        IsTrue (all_pass (map (fits (wide_of v) v.values) args)) → IsTrue (all_pass (map (lists_known known) args)) → ArgsPlaced args m
-    args-placed args m le b f k = placed_args args m (each_placed args) le b f k
+    pub args-placed : (args : List Pattern) (m : ℕ) → base ≤ m → AskedArgs args (length l.env + (m - base)) → ArgsPlaced args m
+    args-placed args m = placed_args args m (of_each_arg IsPlaced inst-placed args)
 
     -- the terms of the used arguments
-    pub used-placed : (t : Term) (level : ℕ) (args : List Pattern) (m : ℕ) → base ≤ m → IsTrue (all_at_scope (length l.env + (m - base)) (map below args)) →
-        IsTrue (all_pass (map (fits (wide_of v) v.values) args)) → IsTrue (all_pass (map (lists_known known) args)) → AreRoomed v (used_terms v l base t level args m) args m
-    used-placed t level [] m le b f k = (AreInScope-none m, let e = widest_in-none m in omega (arith, e), refl)
-    used-placed t level (a ∷ args) m le b f k =
-        let b0 : IsTrue (below a (length l.env + (m - base))) = grind (arith, common_steps) in
-        let b1 : IsTrue (all_at_scope (length l.env + (m - base)) (map below args)) = grind (arith, common_steps) in
-        let f0 : IsTrue (fits (wide_of v) v.values a) = grind (arith, common_steps) in
-        let f1 : IsTrue (all_pass (map (fits (wide_of v) v.values) args)) = grind (arith, common_steps) in
-        let k0 : IsTrue (lists_known known a) = grind (arith, common_steps) in
-        let k1 : IsTrue (all_pass (map (lists_known known) args)) = grind (arith, common_steps) in
-        let r = inst-placed a m le b0 f0 k0 in
-        let rest = used-placed t (level + 1) args m le b1 f1 k1 in
+    pub used-placed : (t : Term) (level : ℕ) (args : List Pattern) (m : ℕ) → base ≤ m → AskedArgs args (length l.env + (m - base)) →
+        AreRoomed v (used_terms v l base t level args m) args m
+    used-placed t level [] m le q = (AreInScope-none m, let e = widest_in-none m in omega (arith, e), refl)
+    used-placed t level (a ∷ args) m le q =
+        let parts = first_arg a args (length l.env + (m - base)) q in
+        let r = inst-placed a m le parts.0 in
+        let rest = used-placed t (level + 1) args m le parts.1 in
         let first : Term = if occurs_in level t then made_at v l base a m else the_blank in
         let own = one_placed (occurs_in level t) (made_at v l base a m) m (room (wide_of v) v.values a m) r.0 r.1 (room-ge a m) in
         let w = own.1 in

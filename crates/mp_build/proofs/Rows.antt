@@ -1,12 +1,12 @@
 -- The hypotheses of a context: what each asks follows from what the row asks.
-use Rattle.std.proofs.Common.{◌≡◌, ℕ, ◌+◌, ◌-◌, ◌<◌, ◌≤◌, ◌^◌, List, [], ◌∷◌, ◌++◌, length, map, get_or, drop, max, IsTrue, suc, refl, ◌∙◌, add-one, append_assoc, arith}
-use Rattle.std.proofs.lemmas.Grind.{common_steps}
+use Rattle.std.proofs.Common.{◌≡◌, ℕ, ◌+◌, ◌-◌, ◌<◌, ◌≤◌, ◌^◌, List, [], ◌∷◌, ◌++◌, length, map, get_or, drop, max, true, IsTrue, suc, refl, ◌∙◌, add-one, append_assoc, arith}
 use Rattle.std.proofs.lemmas.List.{length-map, length-append}
 use Rattle.mp_logic.specs.declared.sym.Sym.{Sym}
 use Rattle.mp_term.specs.declared.term.Term.{Term, Var}
 use Rattle.mp_term.specs.Terms.{in_scope_of}
 use Rattle.mp_term.specs.Limits.{in_scopes_from}
 use Rattle.mp_term.specs.Subst.{variables, AreInScope, widest_of, widest_at, widest_in, upto}
+use Rattle.mp_term.proofs.EqualTerms.{both_true, and_true}
 use Rattle.mp_term.proofs.Layers.{widest-Var}
 use Rattle.mp_term.proofs.SubLaws.{drop-at, widest_in-ge}
 use Rattle.mp_term.proofs.Laws.{width_after_substitution}
@@ -16,7 +16,7 @@ use Rattle.mp_schema.specs.Sequents.{Instance, Spot, ground_at, wide_of, telesco
 use Rattle.mp_schema.specs.Conditions.{has, has_all}
 use Rattle.mp_build.specs.Rooms.{room, telescope_room}
 use Rattle.mp_build.specs.Sites.{IsSpot, IsRowBuildable, IsSubstitutable, args_at, used_terms, kept_at}
-use Rattle.mp_build.proofs.Buildable.{known-of}
+use Rattle.mp_schema.proofs.UseKinds.{has_all-has}
 use Rattle.mp_build.proofs.Grounds.{AreInScope-join, widest_in-none, widest_in-cons, variables-are, upto-in}
 use Rattle.mp_term.proofs.Ranges.{length-upto}
 use Rattle.mp_build.proofs.Placed.{AreRoomed, terms_placed, used-placed, widest_at-least}
@@ -50,7 +50,7 @@ module _ (v : Instance) (l : Spot) (cs : List Sym) (args : List Pattern) where
       let own = widest_at-least v l l.next (l.next + j) args in omega (arith, narrow, least, own)
 
   pub row_contexts : (j : ℕ) (ts : List Term) → IsRowBuildable v l cs args j ts → (c : Sym) → IsTrue (has cs c) → l.pos c + length (v.kept c) ≤ l.next
-  row_contexts j ts r c h = r.spot.made c (known-of r.known cs c r.listed h)
+  row_contexts j ts r c h = r.spot.made c (has_all-has r.known cs c r.listed h)
 
   -- the terms that stand for the variables of hypothesis j
   pub row-terms : (j : ℕ) (terms : List Term) →
@@ -88,7 +88,7 @@ module _ (v : Instance) (l : Spot) (cs : List Sym) (args : List Pattern) where
       let e : length l.env ≡ length l.env + (m - m) = omega arith in
       let outer : l.next ≤ m = omega arith in
       let inner : m ≤ m = omega arith in
-      used-placed v l m r.known r.spot outer t level args m inner (rw e at r.closed) r.fitting r.args_listed
+      used-placed v l m r.known r.spot outer t level args m inner (rw e at r.closed, r.fitting, r.args_listed)
 
   pub row_substitutable : (j : ℕ) (t : Term) (ts made terms : List Term) → IsRowBuildable v l cs args j (t ∷ ts) → AreRoomed v made args (l.next + j) →
       terms ≡ map Var (ground_at v l.pos cs) ++ made ++ map Var (upto l.next j) → IsSubstitutable t terms (l.next + j)
@@ -96,8 +96,7 @@ module _ (v : Instance) (l : Spot) (cs : List Sym) (args : List Pattern) where
       let placed = row-placed r.known r.spot r.listed j made terms roomed is in
       let count = placed.2 in
       let all_wide = placed.1 in
-      let in_row = r.scoped in
-      let scoped : IsTrue (in_scope_of t (wide_of v cs + length args + j)) = grind (arith, common_steps, in_row) in
+      let scoped = (both_true (in_scope_of t (wide_of v cs + length args + j)) (in_scopes_from (wide_of v cs + length args + j + 1) ts) r.scoped).0 in
       let scoped' : IsTrue (in_scope_of t (length terms)) = rw count scoped in
       let grown = width_after_substitution terms (l.next + j) t scoped' in
       let narrow = r.narrow in
@@ -119,8 +118,7 @@ module _ (v : Instance) (l : Spot) (cs : List Sym) (args : List Pattern) where
       let scoped = rw next at r.scoped in
       let narrow = rw next at r.narrow in
       let e : wide_of v cs + length args + j + 1 ≡ wide_of v cs + length args + (j + 1) = omega arith in
-      let first : IsTrue (in_scope_of t (wide_of v cs + length args + j)) = grind (arith, common_steps, scoped) in
-      let rest : IsTrue (in_scopes_from (wide_of v cs + length args + j + 1) (drop (j + 1) ts)) = grind (arith, common_steps, scoped) in
+      let k = both_true (in_scope_of t (wide_of v cs + length args + j)) (in_scopes_from (wide_of v cs + length args + j + 1) (drop (j + 1) ts)) scoped in
       let least = row-least (suc j) (drop (j + 1) ts) in
       let narrow_rest : telescope_room v cs args l.next (suc j) (drop (j + 1) ts) < 2 ^ 31 = omega (arith, narrow) in (
         record {
@@ -130,7 +128,7 @@ module _ (v : Instance) (l : Spot) (cs : List Sym) (args : List Pattern) where
           closed = r.closed;
           fitting = r.fitting;
           args_listed = r.args_listed;
-          scoped = grind (arith, common_steps, first);
+          scoped = and_true (in_scope_of t (wide_of v cs + length args + j)) true k.0 refl;
           narrow = omega (arith, narrow, least, narrow_rest);
         },
         record {
@@ -140,7 +138,7 @@ module _ (v : Instance) (l : Spot) (cs : List Sym) (args : List Pattern) where
           closed = r.closed;
           fitting = r.fitting;
           args_listed = r.args_listed;
-          scoped = rw e at rest;
+          scoped = rw e at k.1;
           narrow = let h = rw add-one at narrow_rest in rw add-one h;
         },
       )

@@ -1,5 +1,5 @@
 -- The number, the sizes and the depths computed from a schema are those of the sequent that it makes.
-use Rattle.std.proofs.Common.{Err, ◌≡◌, ℕ, ◌+◌, List, [], ◌∷◌, ◌++◌, length, map, get_or, zero, suc, max, sum, replicate, refl, ap, arith}
+use Rattle.std.proofs.Common.{Err, ◌≡◌, ℕ, ◌+◌, List, [], ◌∷◌, ◌++◌, length, map, get_or, zero, suc, max, sum, replicate, refl, arith}
 use Rattle.std.specs.Prelude.{sum_by, Bool, true, false, ◌&&◌, nat_le}
 use Rattle.std.specs.List.{list_all}
 use Rattle.std.proofs.lemmas.Bool.Decides.{nat_tests}
@@ -25,7 +25,7 @@ use Rattle.mp_build.specs.declared.error.BuildErr.TheVariants.{TooLarge, NoMemor
 use Rattle.mp_build.specs.Built.{IsChecked}
 use Rattle.mp_build.specs.Sizes.{behind_ones, IsWeighing, inst_size, inst_depth, item_count, item_size, item_depth, schema_count, schema_size, schema_depth}
 use Rattle.mp_build.proofs.Grounds.{variables-are}
-use Rattle.mp_schema.proofs.Rows.{wide-ground}
+use Rattle.mp_schema.proofs.Rows.{wide-ground, telescope-length}
 use Rattle.mp_term.proofs.Ranges.{length-upto}
 use Rattle.mp_build.proofs.Used.{same_size, same_depth}
 use Rattle.mp_build.proofs.Weighed.{size-inst, depth-inst, sizes-terms, depths-terms, sizes-levels, depths-levels}
@@ -55,10 +55,6 @@ module _ (v : Instance) where
         let aft : map depth_of (variables l.next j) ≡ replicate j 1 = rw (variables-are, depths-levels, length-upto) refl in
         rw (map-append depth_of (map Var (ground_at v l.pos cs) ++ made_each (map (inst_of (ground_at v l.pos) v.values) args) (map Var l.env) (l.next + j)) (variables l.next j), fore, aft) refl
 
-    length-telescope : (j : ℕ) (ts : List Term) → length (telescope v l cs args l.next j ts) ≡ length ts
-    length-telescope j [] = refl
-    length-telescope j (t ∷ ts) = ap suc (length-telescope (suc j) ts)
-
     size-telescope : (j : ℕ) (ts : List Term) → sum_by size_of (telescope v l cs args l.next j ts)
         ≡ sum (map (sub_size (behind_ones (wide_of v cs) (map (inst_size (wide_of v) v.values) args))) ts)
     size-telescope j [] = refl
@@ -78,7 +74,7 @@ module _ (v : Instance) where
 
   pub length-item : (i : Item) (l : Spot) → length (hyps_of v i l) ≡ item_count v i
   length-item (Hyp p) l = refl
-  length-item (Ctx n cs args) l = length-telescope l cs args 0 (v.kept n)
+  length-item (Ctx n cs args) l = telescope-length v l cs args l.next 0 (v.kept n)
 
   size-item : (i : Item) (l : Spot) → sum_by size_of (hyps_of v i l) ≡ item_size v i
   size-item (Hyp p) l =

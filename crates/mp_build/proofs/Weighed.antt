@@ -13,7 +13,7 @@ use Rattle.mp_schema.specs.declared.pattern.ParamPat.{ParamPat}
 use Rattle.mp_schema.specs.declared.pattern.Pattern.{Pattern}
 use Rattle.mp_schema.specs.declared.pattern.Pattern as pat
 use Rattle.mp_schema.specs.declared.pattern.PBound.{PBound}
-use Rattle.mp_schema.specs.Induction.{OfEachBody, OfEachArg, each_pattern}
+use Rattle.mp_schema.specs.Induction.{OfEachBody, OfEachArg, each_pattern, of_each_arg}
 use Rattle.mp_schema.specs.Instances.{Values, Ground, Wide, inst_of, inst_bound, made_each}
 use Rattle.mp_schema.proofs.Layers.{inst-Var, inst-Op, inst-Meta, inst_bound-is}
 use Rattle.mp_build.specs.Sizes.{inst_size, inst_size_bound, inst_depth, inst_depth_bound, behind_ones}
@@ -111,18 +111,10 @@ module _ (before : Ground) (wide : Wide) (many : (cs : List Sym) → length (bef
   pub depth-inst : (p : Pattern) → IsDeep p
   depth-inst = each_pattern IsDeep deep_var deep_op deep_meta
 
-  each_sized : (args : List Pattern) → OfEachArg IsSized args
-  each_sized [] = tt
-  each_sized (a ∷ args) = (size-inst a, each_sized args)
-
   pub sizes-terms : (cs : List Sym) (args : List Pattern) (levels : List ℕ) (m : ℕ) →
       map size_of (map Var (before cs) ++ made_each (map (inst_of before v) args) (map Var levels) m) ≡ behind_ones (wide cs) (map (inst_size wide v) args)
-  sizes-terms cs args levels m = sizes_terms cs args levels m (each_sized args)
-
-  each_deep : (args : List Pattern) → OfEachArg IsDeep args
-  each_deep [] = tt
-  each_deep (a ∷ args) = (depth-inst a, each_deep args)
+  sizes-terms cs args levels m = sizes_terms cs args levels m (of_each_arg IsSized size-inst args)
 
   pub depths-terms : (cs : List Sym) (args : List Pattern) (levels : List ℕ) (m : ℕ) →
       map depth_of (map Var (before cs) ++ made_each (map (inst_of before v) args) (map Var levels) m) ≡ behind_ones (wide cs) (map (inst_depth wide v) args)
-  depths-terms cs args levels m = depths_terms cs args levels m (each_deep args)
+  depths-terms cs args levels m = depths_terms cs args levels m (of_each_arg IsDeep depth-inst args)

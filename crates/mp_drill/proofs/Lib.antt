@@ -1,3 +1,4 @@
+pub mod Agreement
 pub mod Existence
 pub mod FirstSections
 pub mod Outcomes

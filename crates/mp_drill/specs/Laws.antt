@@ -24,6 +24,11 @@ module _ {G : Type 0} where
   abbrev pub SomeTrace : (Work G → Outcome G) → Type 0
   SomeTrace eval = (work : Work G) (events : List Event) → (replies : List Reply) × IsTrace eval work events replies (eval work)
 
+  -- a trace is one of each evaluation that gives the trace's work the same outcome
+  abbrev pub SameTraces : (Work G → Outcome G) → (Work G → Outcome G) → Type 0
+  SameTraces eval other = (work : Work G) (events : List Event) (replies : List Reply) (o : Outcome G)
+      → eval work ≡ other work → IsTrace eval work events replies o → IsTrace other work events replies o
+
 -- the outcome of a trace is one that the relation allows, where evaluation gives what its works do
 abbrev pub TracesAreAllowed : {L G J : Type 0} → (L → Meaning G J) → ProblemState L J → Type 0
 TracesAreAllowed {L} {G} meaning p =

@@ -1,6 +1,6 @@
 ghost use Rattle.mp_strategy.specs.declared.work.Work.{Work};
 ghost use Rattle.mp_strategy.specs.declared.outcome.Outcome.{Outcome};
-ghost use Rattle.mp_drill.specs.Laws.{OneTrace, SomeTrace, TracesAreAllowed, TracesEvaluate};
+ghost use Rattle.mp_drill.specs.Laws.{OneTrace, SameTraces, SomeTrace, TracesAreAllowed, TracesEvaluate};
 ghost use Rattle.mp_drill.specs.ScheduleReading.{OneScheduleText, SomeScheduleText};
 
 use mp_logic::Logic;
@@ -19,6 +19,11 @@ pub fn some_trace<L: Logic>()
 /// A trace ends with what its work evaluates to.
 pub fn traces_evaluate<G>()
     ensures { (eval : Work G → Outcome G) → TracesEvaluate eval }
+{}
+
+/// A trace depends on evaluation only by what its own work evaluates to.
+pub fn same_traces<G>()
+    ensures { (eval other : Work G → Outcome G) → SameTraces eval other }
 {}
 
 /// The outcome of a trace is one that its work gives, whatever the schedule.

@@ -16,7 +16,7 @@ mod workers;
 
 pub use drilling::drill;
 pub use laws::{
-    one_schedule_text, one_trace, some_schedule_text, some_trace, traces_are_allowed,
+    one_schedule_text, one_trace, same_traces, some_schedule_text, some_trace, traces_are_allowed,
     traces_evaluate,
 };
 pub use limits::{LAST_WORKER, MOST_UNITS, UNITS, WORKERS};

@@ -39,7 +39,7 @@ run_covers p (suc n) (x ∷ xs) h e =
     omega (arith, rest, all)
 
 -- the bytes of a name, by its first and the rest
-name_parts : (begins : ℕ → Bool) (b : ℕ) (bs : List ℕ) → is_name begins (b ∷ bs) ≡ true → (begins b ≡ true) × (list_all is_word_byte bs ≡ true)
+pub name_parts : (begins : ℕ → Bool) (b : ℕ) (bs : List ℕ) → is_name begins (b ∷ bs) ≡ true → (begins b ≡ true) × (list_all is_word_byte bs ≡ true)
 name_parts begins b bs e =
     let parts = and_parts (begins b && list_all is_word_byte bs) (nat_lt (length bs) 64) e in
     and_parts (begins b) (list_all is_word_byte bs) parts.0

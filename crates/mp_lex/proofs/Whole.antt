@@ -5,7 +5,7 @@ use Rattle.std.specs.List.{list_all, prefix_len}
 use Rattle.std.proofs.lemmas.Bool.{and_parts}
 use Rattle.std.proofs.lemmas.Bool.Decides.{nat_tests}
 use Rattle.mp_lex.specs.declared.token.Kind.{Kind}
-use Rattle.mp_lex.specs.declared.token.Kind.TheVariants.{Small, SmallVar, Num, Str}
+use Rattle.mp_lex.specs.declared.token.Kind.TheVariants.{Small, Cap, SmallVar, Num, Str}
 use Rattle.mp_lex.specs.declared.token.Token.{Token}
 use Rattle.mp_lex.specs.declared.token.LexWhy.{LexWhy}
 use Rattle.mp_lex.specs.declared.token.LexWhy.TheVariants.{BadNumber, BadString, LongName, TooNested}
@@ -13,7 +13,8 @@ use Rattle.mp_lex.specs.declared.front.Front.TheVariants as front
 use Rattle.mp_lex.specs.Bytes.{is_cap, is_digit, is_opening, is_small, is_word_byte}
 use Rattle.mp_lex.specs.Forms.{is_name, is_number, is_text}
 use Rattle.mp_lex.specs.Lex.{begins_with, checked, depth_after, front_of, go_on, lex_from, string_len, with_front}
-use Rattle.mp_lex.proofs.Fronts.{no, small_word, yes}
+use Rattle.mp_lex.proofs.Fronts.{cap_word, no, small_word, yes}
+use Rattle.mp_lex.proofs.Longest.{name_parts}
 use Rattle.mp_lex.proofs.Passes.{skipped}
 
 -- a token of this kind and length is found at the front
@@ -57,24 +58,29 @@ checked_whole k why n cs rest e h =
     ap (λ j. checked k why j (cs ++ rest)) e ∙ ap (λ xs. if is_text k xs then front.Token k (length cs) else front.Bad 0 why) (take_whole cs rest) ∙ ap (λ b. if b then front.Token k (length cs) else front.Bad 0 why) h
 
 small_first : (c : ℕ) (cs : List ℕ) → is_name is_small (c ∷ cs) ≡ true → is_small c ≡ true
-small_first c cs h = (and_parts (is_small c) (list_all is_word_byte cs) (and_parts (is_small c && list_all is_word_byte cs) (nat_lt (length cs) 64) h).0).0
+small_first c cs h = (name_parts is_small c cs h).0
 
-all_words : (c : ℕ) (cs : List ℕ) → is_name is_small (c ∷ cs) ≡ true → list_all is_word_byte (c ∷ cs) ≡ true
-all_words c cs h =
-    let both = and_parts (is_small c) (list_all is_word_byte cs) (and_parts (is_small c && list_all is_word_byte cs) (nat_lt (length cs) 64) h).0 in
-    let word = small_word c both.0 in
-    rw word both.1
+-- all bytes of a name are, where the first one is
+all_words : (begins : ℕ → Bool) (c : ℕ) (cs : List ℕ) → is_word_byte c ≡ true → is_name begins (c ∷ cs) ≡ true → list_all is_word_byte (c ∷ cs) ≡ true
+all_words begins c cs word h = rw word (name_parts begins c cs h).1
 
 pub small_begins : (c : ℕ) (cs rest : List ℕ) → is_name is_small (c ∷ cs) ≡ true → begins_with is_word_byte rest ≡ false → Begins Small (suc (length cs)) (c ∷ (cs ++ rest))
 small_begins c cs rest h d =
     let small = small_first c cs h in
-    yes (is_small c) _ _ small ∙ (checked_whole Small LongName (prefix_len is_word_byte (c ∷ (cs ++ rest))) (c ∷ cs) rest (prefix_whole is_word_byte (c ∷ cs) rest (all_words c cs h) d) h)
+    yes (is_small c) _ _ small ∙ (checked_whole Small LongName (prefix_len is_word_byte (c ∷ (cs ++ rest))) (c ∷ cs) rest (prefix_whole is_word_byte (c ∷ cs) rest (all_words is_small c cs (small_word c small) h) d) h)
+
+pub capital_begins : (c : ℕ) (cs rest : List ℕ) → is_name is_cap (c ∷ cs) ≡ true → begins_with is_word_byte rest ≡ false → Begins Cap (suc (length cs)) (c ∷ (cs ++ rest))
+capital_begins c cs rest h d =
+    let cap = (name_parts is_cap c cs h).0 in
+    let small : is_small c ≡ false = grind (arith, nat_tests, cap) in
+    let found = checked_whole Cap LongName (prefix_len is_word_byte (c ∷ (cs ++ rest))) (c ∷ cs) rest (prefix_whole is_word_byte (c ∷ cs) rest (all_words is_cap c cs (cap_word c cap) h) d) h in
+    no (is_small c) _ _ small ∙ yes (is_cap c) _ _ cap ∙ found
 
 pub variable_begins : (cs rest : List ℕ) → is_name is_small cs ≡ true → begins_with is_word_byte rest ≡ false → Begins SmallVar (suc (length cs)) (39 ∷ (cs ++ rest))
 variable_begins [] rest h d = absurd (true≢false (sym h))
 variable_begins (c ∷ cs) rest h d =
     let small = small_first c cs h in
-    let run = prefix_whole is_word_byte (c ∷ cs) rest (all_words c cs h) d in
+    let run = prefix_whole is_word_byte (c ∷ cs) rest (all_words is_small c cs (small_word c small) h) d in
     let n : 1 + prefix_len is_word_byte (c ∷ (cs ++ rest)) ≡ length (39 ∷ c ∷ cs) = omega (arith, run) in
     yes (is_small c) _ _ small ∙ (checked_whole SmallVar LongName (1 + prefix_len is_word_byte (c ∷ (cs ++ rest))) (39 ∷ c ∷ cs) rest n h)
 

@@ -1,18 +1,24 @@
 -- The contexts and the named hypotheses before a place lie apart.
-use Rattle.std.proofs.Common.{◌≡◌, ℕ, ◌+◌, ◌≤◌, List, [], ◌∷◌, ◌++◌, length, Bool, true, false, not, ◌||◌, nat_eq, IsTrue, Option, Some, None, ◌⊎◌, inl, inr, refl, sym, ◌∙◌, arith}
+use Rattle.std.proofs.Common.{◌≡◌, ℕ, ◌+◌, ◌≤◌, List, [], ◌∷◌, ◌++◌, length, Bool, true, false, ◌||◌, nat_eq, IsTrue, if◌then◌else◌, Option, Some, None, ◌⊎◌, inl, inr, refl, sym, ◌∙◌, arith}
+use Rattle.std.specs.List.{IsDistinct}
+use Rattle.std.specs.Option.{option_or}
 use Rattle.std.proofs.lemmas.Bool.Decides.{nat_tests}
+use Rattle.std.proofs.lemmas.Grind.{common_steps}
 use Rattle.mp_logic.specs.declared.sym.Sym.{Sym}
 use Rattle.mp_term.specs.declared.term.Term.{Term}
 use Rattle.mp_schema.specs.declared.instance.CtxVal.{CtxVal}
 use Rattle.mp_term.specs.Subst.{upto}
-use Rattle.mp_schema.specs.Conditions.{has, has_all, is_apart, is_known}
+use Rattle.mp_schema.specs.Conditions.{has, is_known}
 use Rattle.mp_schema.specs.Values.{find_ctx, kept_of, first_variable_of, variables_of}
-use Rattle.mp_schema.proofs.Spread.{or_left, or_right}
+use Rattle.mp_schema.proofs.Spread.{or_right}
+use Rattle.mp_match.specs.Covering.{is_there}
 use Rattle.mp_match.specs.declared.place.Position.{Position}
 use Rattle.mp_match.specs.Places.{names_of, ground_of, IsUsable}
-use Rattle.mp_match.specs.Walks.{past_named, past_context}
-use Rattle.mp_term.proofs.EqualTerms.{decided, both_true, same_name, same_name-refl}
-use Rattle.mp_schema.proofs.Apart.{Apart, Below, Differ, Apart-to, Below-to, Apart-append, Below-append, Below-more, Apart-upto, Below-upto, Differ-append, Below-Differ-upto}
+use Rattle.mp_match.specs.Walks.{past_named, past_context, first_walk}
+use Rattle.mp_term.proofs.EqualTerms.{decided, same_name, same_name-refl}
+use Rattle.mp_schema.proofs.Apart.{Below, Apart-from, Apart-to, Apart-left, Below-to, Below-append, Below-more, Below-upto}
+use Rattle.mp_match.proofs.Solving.{last_or_earlier}
+use Rattle.mp_schema.proofs.Laying.{IsLaidOut, laid-first, blocks-distinct, laid-named as named_next, laid-context as context_next}
 
 -- ## Look-ups
 
@@ -20,191 +26,128 @@ pub has-append : (xs : List Sym) (x a : Sym) → has (xs ++ x ∷ []) a ≡ (has
 has-append [] x a = elim (decided (nat_eq x.0 a.0)) [ inl h ↦ rw h refl | inr h ↦ rw h refl ]
 has-append (y ∷ xs) x a = elim (decided (nat_eq y.0 a.0)) [ inl h ↦ rw h refl | inr h ↦ rw h (has-append xs x a) ]
 
-pub or_either : (a b : Bool) → (a || b) ≡ true → (a ≡ true) ⊎ (b ≡ true)
-or_either true b h = inl refl
-or_either false b h = inr h
-
 pub names-append : (xs : List CtxVal) (x : CtxVal) → names_of (xs ++ x ∷ []) ≡ x.name ∷ names_of xs
 names-append [] x = refl
 names-append (y ∷ xs) x = rw (names-append xs x) refl
 
+ctx-append : (xs : List CtxVal) (x : CtxVal) (name : Sym) → find_ctx (xs ++ x ∷ []) name ≡ option_or (find_ctx xs name) (if nat_eq x.name.0 name.0 then Some x else None)
+ctx-append [] x name = refl
+ctx-append (z ∷ xs) x name = elim (decided (nat_eq z.name.0 name.0)) [ inl h ↦ rw h refl | inr h ↦ rw h (ctx-append xs x name) ]
+
 pub ctx-kept : (xs : List CtxVal) (x y : CtxVal) (name : Sym) → find_ctx xs name ≡ Some y → find_ctx (xs ++ x ∷ []) name ≡ Some y
-ctx-kept [] x y name e = absurd (cc)
-ctx-kept (z ∷ xs) x y name e = elim (decided (nat_eq z.name.0 name.0)) [
-  | inl h ↦ grind (arith, h)
-  | inr h ↦ let e' : find_ctx xs name ≡ Some y = grind (arith, h) in let r = ctx-kept xs x y name e' in grind (arith, h, r)
-]
+ctx-kept xs x y name e = rw (ctx-append xs x name, e) refl
 
 pub ctx-new : (xs : List CtxVal) (x : CtxVal) → find_ctx xs x.name ≡ None → find_ctx (xs ++ x ∷ []) x.name ≡ Some x
-ctx-new [] x e = let h = same_name-refl x.name in grind (arith, h)
-ctx-new (z ∷ xs) x e = elim (decided (nat_eq z.name.0 x.name.0)) [
-  | inl h ↦ absurd (grind (arith, h))
-  | inr h ↦ let e' : find_ctx xs x.name ≡ None = grind (arith, h) in let r = ctx-new xs x e' in grind (arith, h, r)
-]
+ctx-new xs x e = let same = same_name-refl x.name in rw (ctx-append xs x x.name, e, same) refl
 
 pub ctx-either : (xs : List CtxVal) (x y : CtxVal) (name : Sym) → find_ctx (xs ++ x ∷ []) name ≡ Some y →
     (find_ctx xs name ≡ Some y) ⊎ ((x.name ≡ name) × (y ≡ x))
-ctx-either [] x y name e = elim (decided (nat_eq x.name.0 name.0)) [
-  | inl h ↦ inr (same_name x.name name h, grind (arith, h))
-  | inr h ↦ absurd (grind (arith, h))
-]
-ctx-either (z ∷ xs) x y name e = elim (decided (nat_eq z.name.0 name.0)) [
-  | inl h ↦ inl (grind (arith, h))
-  | inr h ↦ let e' : find_ctx (xs ++ x ∷ []) name ≡ Some y = grind (arith, h) in
-      elim (ctx-either xs x y name e') [
-        | inl k ↦ inl (grind (arith, h, k))
-        | inr k ↦ inr k
-      ]
-]
+ctx-either xs x y name e = last_or_earlier (find_ctx xs name) x.name name x y (sym (ctx-append xs x name) ∙ e)
 
 pub ctx-other : (xs : List CtxVal) (x : CtxVal) (name : Sym) → nat_eq x.name.0 name.0 ≡ false → find_ctx (xs ++ x ∷ []) name ≡ find_ctx xs name
-ctx-other [] x name h = rw h refl
-ctx-other (z ∷ xs) x name h = elim (decided (nat_eq z.name.0 name.0)) [
-  | inl k ↦ rw k refl
-  | inr k ↦ rw k (ctx-other xs x name h)
-]
+ctx-other xs x name h = rw (ctx-append xs x name, h) (or_none (find_ctx xs name)) where
+  or_none : (o : Option CtxVal) → option_or o None ≡ o
+  or_none None = refl
+  or_none (Some y) = refl
+
+-- the names are those that have a value
+has-names : (xs : List CtxVal) (name : Sym) → has (names_of xs) name ≡ is_there (find_ctx xs name)
+has-names [] name = refl
+has-names (z ∷ xs) name =
+    has-append (names_of xs) z.name name ∙ elim (decided (nat_eq z.name.0 name.0)) [
+      | inl same ↦ rw same (or_right (has (names_of xs) name) true refl)
+      | inr other ↦ let rest = has-names xs name in grind (arith, common_steps, other, rest)
+    ]
+
+none_there : (o : Option CtxVal) → is_there o ≡ false → o ≡ None
+none_there None h = refl
+none_there (Some x) h = absurd (cc)
+
+some_there : (o : Option CtxVal) → is_there o ≡ true → (x : CtxVal) × (o ≡ Some x)
+some_there None h = absurd (cc)
+some_there (Some x) h = (x, refl)
 
 -- a name that no context has, has no value
 pub ctx-none : (xs : List CtxVal) (name : Sym) → has (names_of xs) name ≡ false → find_ctx xs name ≡ None
-ctx-none [] name h = refl
-ctx-none (z ∷ xs) name h = elim (decided (nat_eq z.name.0 name.0)) [
-  | inl k ↦
-      let t : has (names_of xs ++ z.name ∷ []) name ≡ true = has-append (names_of xs) z.name name ∙ or_right (has (names_of xs) name) (nat_eq z.name.0 name.0) k in
-      absurd (cc)
-  | inr k ↦
-      let e : has (names_of xs) name ≡ false = elim (decided (has (names_of xs) name)) [
-        | inl t ↦
-            let t' : has (names_of xs ++ z.name ∷ []) name ≡ true = has-append (names_of xs) z.name name ∙ or_left (has (names_of xs) name) (nat_eq z.name.0 name.0) t in
-            absurd (cc)
-        | inr f ↦ f
-      ] in
-      rw k (ctx-none xs name e)
-]
-
-some_ctx : (xs : List CtxVal) (name : Sym) (o : Option CtxVal) → find_ctx xs name ≡ o → has (names_of xs) name ≡ true → (x : CtxVal) × (find_ctx xs name ≡ Some x)
-some_ctx [] name o e h = absurd (cc)
-some_ctx (z ∷ xs) name (Some x) e h = (x, e)
-some_ctx (z ∷ xs) name None e h = elim (decided (nat_eq z.name.0 name.0)) [
-  | inl k ↦ absurd (grind (arith, k, e))
-  | inr k ↦
-      let h' = or_either (has (names_of xs) name) (nat_eq z.name.0 name.0) (sym (has-append (names_of xs) z.name name) ∙ h) in
-      let e' : find_ctx xs name ≡ None = grind (arith, k, e) in
-      elim h' [
-        | inl t ↦ let r = some_ctx xs name None e' t in absurd (let r1 = r.1 in cc)
-        | inr t ↦ absurd (cc)
-      ]
-]
+ctx-none xs name h = none_there (find_ctx xs name) (sym (has-names xs name) ∙ h)
 
 pub ctx-some : (xs : List CtxVal) (name : Sym) → has (names_of xs) name ≡ true → (x : CtxVal) × (find_ctx xs name ≡ Some x)
-ctx-some xs name h = some_ctx xs name (find_ctx xs name) refl h
+ctx-some xs name h = some_there (find_ctx xs name) (sym (has-names xs name) ∙ h)
 
--- ## Ranges
+-- ## Places
 
--- the variables of a context
-abbrev pub range : List CtxVal → Sym → List ℕ
-range ctxs name = upto (first_variable_of ctxs name) (length (kept_of ctxs name))
+abbrev pub count_of : List CtxVal → Sym → ℕ
+count_of ctxs name = length (kept_of ctxs name)
 
 -- the contexts and the named hypotheses before a place lie apart, below it
 pub record IsLaid (place : Position) : Type 0 where
   pub ambient : place.ambient ≡ 0
-  pub ends : (name : Sym) → first_variable_of place.ctxs name + length (kept_of place.ctxs name) ≤ place.next
-  pub named_below : Below place.next place.named
-  pub named_apart : Apart place.named
-  pub contexts_apart : (a b : Sym) → has (names_of place.ctxs) a ≡ true → has (names_of place.ctxs) b ≡ true → nat_eq a.0 b.0 ≡ false →
-      Differ (range place.ctxs a) (range place.ctxs b)
-  pub context_named : (a : Sym) → has (names_of place.ctxs) a ≡ true → Differ (range place.ctxs a) place.named
+  pub apart : IsLaidOut (first_variable_of place.ctxs) (count_of place.ctxs) (names_of place.ctxs) place.named place.next
 
-Differ-nil : (xs : List ℕ) → Differ xs []
-Differ-nil xs i j lt lt' = absurd (omega arith)
+-- nothing lies before the first place
+pub laid-nothing : IsLaid first_walk.place
+laid-nothing = record { ambient = refl; apart = laid-first (first_variable_of []) (count_of []) }
 
-Apart-nil : Apart []
-Apart-nil i j lt inside = absurd (omega arith)
-
-Below-nil : (n : ℕ) → Below n []
-Below-nil n i lt = absurd (omega arith)
+-- where these contexts have the same variables, they lie apart as well
+laid-same : (first first' count count' : Sym → ℕ) (known : List Sym) (named : List ℕ) (next : ℕ) → ((c : Sym) → has known c ≡ true → (first c ≡ first' c) × (count c ≡ count' c)) →
+    IsLaidOut first count known named next → IsLaidOut first' count' known named next
+laid-same first first' count count' known named next same laid = record {
+  ends = λ c h. let e = same c h in rw (← e.0, ← e.1) (laid.ends c h);
+  named_below = laid.named_below;
+  named_apart = laid.named_apart;
+  contexts_apart = λ a b ha hb ne. let ea = same a ha in let eb = same b hb in rw (← ea.0, ← ea.1, ← eb.0, ← eb.1) (laid.contexts_apart a b ha hb ne);
+  context_named = λ a ha. let e = same a ha in rw (← e.0, ← e.1) (laid.context_named a ha);
+}
 
 module _ (place : Position) (laid : IsLaid place) where
-  range-below : (name : Sym) → Below place.next (range place.ctxs name)
-  range-below name =
-      let e = laid.ends name in
-      Below-more (first_variable_of place.ctxs name + length (kept_of place.ctxs name)) place.next (range place.ctxs name) (omega (arith, e))
-      (Below-upto (first_variable_of place.ctxs name) (length (kept_of place.ctxs name)))
+  abbrev first : Sym → ℕ
+  first = first_variable_of place.ctxs
 
-  not_true : (b : Bool) → not b ≡ true → b ≡ false
-  not_true true h = absurd (cc)
-  not_true false h = refl
+  abbrev count : Sym → ℕ
+  count = count_of place.ctxs
 
-  flips : (a b : Sym) → nat_eq a.0 b.0 ≡ false → nat_eq b.0 a.0 ≡ false
-  flips a b h = grind (arith, nat_tests, h)
+  abbrev known : List Sym
+  known = names_of place.ctxs
 
-  -- a context that isn't in the list differs from those in it
-  others : (a : Sym) (names : List Sym) → has (names_of place.ctxs) a ≡ true → has_all (names_of place.ctxs) names ≡ true → has names a ≡ false →
-      Differ (range place.ctxs a) (variables_of place.ctxs names)
-  others a [] ha h no' = Differ-nil (range place.ctxs a)
-  others a (b ∷ names) ha h no' =
-      let k = both_true (has (names_of place.ctxs) b) (has_all (names_of place.ctxs) names) h in
-      elim (decided (nat_eq b.0 a.0)) [
-        | inl same ↦ absurd (let t = or_left (nat_eq b.0 a.0) (has names a) same in cc)
-        | inr other ↦
-            let rest : has names a ≡ false = grind (arith, other, no') in
-            Differ-append (range place.ctxs b) (variables_of place.ctxs names) (range place.ctxs a)
-            (laid.contexts_apart a b ha k.0 (flips b a other)) (others a names ha k.1 rest)
-      ]
+  pub laid-ends : (name : Sym) → first_variable_of place.ctxs name + length (kept_of place.ctxs name) ≤ place.next
+  laid-ends name = elim (decided (has known name)) [
+    | inl h ↦ laid.apart.ends name h
+    | inr h ↦ rw (ctx-none place.ctxs name h) (omega arith)
+  ]
 
-  variables-apart : (names : List Sym) → has_all (names_of place.ctxs) names ≡ true → is_apart names ≡ true → Apart (variables_of place.ctxs names)
-  variables-apart [] h apart = Apart-nil
-  variables-apart (a ∷ names) h apart =
-      let k = both_true (has (names_of place.ctxs) a) (has_all (names_of place.ctxs) names) h in
-      let d = both_true (not (has names a)) (is_apart names) apart in
-      Apart-append (range place.ctxs a) (variables_of place.ctxs names) (Apart-upto (first_variable_of place.ctxs a) (length (kept_of place.ctxs a)))
-      (variables-apart names k.1 d.1) (others a names k.0 k.1 (not_true (has names a) d.0))
-
-  variables-below : (names : List Sym) → Below place.next (variables_of place.ctxs names)
-  variables-below [] = Below-nil place.next
-  variables-below (a ∷ names) = Below-append (range place.ctxs a) (variables_of place.ctxs names) place.next (range-below a) (variables-below names)
-
-  differ-left : (xs ys zs : List ℕ) → Differ xs zs → Differ ys zs → Differ (xs ++ ys) zs
-  differ-left xs ys zs hx hy i j lt lt' =
-      let flip = Differ-append xs ys zs (λ p q a b e. hx q p b a (sym e)) (λ p q a b e. hy q p b a (sym e)) in
-      λ e. flip j i lt' lt (sym e)
-
-  variables-named : (names : List Sym) → has_all (names_of place.ctxs) names ≡ true → Differ (variables_of place.ctxs names) place.named
-  variables-named [] h = λ i j lt lt'. absurd (omega arith)
-  variables-named (a ∷ names) h =
-      let k = both_true (has (names_of place.ctxs) a) (has_all (names_of place.ctxs) names) h in
-      differ-left (range place.ctxs a) (variables_of place.ctxs names) place.named (laid.context_named a k.0) (variables-named names k.1)
-
-  pub ground-variables : (names : List Sym) → ground_of place names ≡ variables_of place.ctxs names
+  ground-variables : (names : List Sym) → ground_of place names ≡ variables_of place.ctxs names
   ground-variables names = rw laid.ambient refl
 
-  pub ground-apart : (names : List Sym) → IsTrue (is_known (names_of place.ctxs) names) → Apart (ground_of place names ++ place.named)
-  ground-apart names h =
-      let k = both_true (has_all (names_of place.ctxs) names) (is_apart names) h in
-      rw (ground-variables names)
-      (Apart-append (variables_of place.ctxs names) place.named (variables-apart names k.0 k.1) laid.named_apart (variables-named names k.0))
+  pub ground-distinct : (names : List Sym) → IsTrue (is_known (names_of place.ctxs) names) → IsDistinct nat_eq (ground_of place names ++ place.named)
+  ground-distinct names h = rw (ground-variables names) (blocks-distinct first count known place.named place.next laid.apart names h)
+
+  pub variables-below : (names : List Sym) → Below place.next (variables_of place.ctxs names)
+  variables-below [] = λ i lt. absurd (omega arith)
+  variables-below (a ∷ names) =
+      let e = laid-ends a in
+      Below-append (upto (first a) (count a)) (variables_of place.ctxs names) place.next
+      (Below-more (first a + count a) place.next (upto (first a) (count a)) (omega (arith, e)) (Below-upto (first a) (count a))) (variables-below names)
 
   pub ground-below : (names : List Sym) → Below place.next (ground_of place names ++ place.named)
-  ground-below names = rw (ground-variables names) (Below-append (variables_of place.ctxs names) place.named place.next (variables-below names) laid.named_below)
+  ground-below names = rw (ground-variables names) (Below-append (variables_of place.ctxs names) place.named place.next (variables-below names) laid.apart.named_below)
+
+  -- the variables of contexts are distinct
+  pub variables-distinct : (names : List Sym) → IsTrue (is_known (names_of place.ctxs) names) → IsDistinct nat_eq (variables_of place.ctxs names)
+  variables-distinct names h =
+      Apart-to (variables_of place.ctxs names) (Apart-left (variables_of place.ctxs names) place.named
+      (Apart-from (variables_of place.ctxs names ++ place.named) (rw (ground-variables names) at (ground-distinct names h))))
 
   pub laid-usable : IsUsable place
   laid-usable = record {
-    ends = laid.ends;
-    distinct = λ names h. Apart-to (ground_of place names ++ place.named) (ground-apart names h);
+    ends = laid-ends;
+    distinct = ground-distinct;
     below = λ names h. Below-to place.next (ground_of place names ++ place.named) (ground-below names);
   }
 
   -- ## The next place
 
   pub laid-named : IsLaid (past_named place)
-  laid-named = record {
-    ambient = laid.ambient;
-    ends = λ name. let e = laid.ends name in omega (arith, e);
-    named_below = Below-append place.named (upto place.next 1) (place.next + 1) (Below-more place.next (place.next + 1) place.named (omega arith) laid.named_below) (Below-upto place.next 1);
-    named_apart = Apart-append place.named (upto place.next 1) laid.named_apart (Apart-upto place.next 1) (Below-Differ-upto place.next 1 place.named laid.named_below);
-    contexts_apart = laid.contexts_apart;
-    context_named = λ a ha. Differ-append place.named (upto place.next 1) (range place.ctxs a) (laid.context_named a ha)
-        (Below-Differ-upto place.next 1 (range place.ctxs a) (range-below a));
-  }
+  laid-named = record { ambient = laid.ambient; apart = named_next first count known place.named place.next laid.apart }
 
   module _ (name : Sym) (kept : List Term) (new : has (names_of place.ctxs) name ≡ false) where
     abbrev value : CtxVal
@@ -216,51 +159,34 @@ module _ (place : Position) (laid : IsLaid place) where
     at_new : find_ctx more name ≡ Some value
     at_new = ctx-new place.ctxs value (ctx-none place.ctxs name new)
 
-    at_same : (a : Sym) → nat_eq name.0 a.0 ≡ true → find_ctx more a ≡ Some value
-    at_same a h = let e = same_name name a h in rw (← e) at_new
-
-    range-new : (a : Sym) → nat_eq name.0 a.0 ≡ true → range more a ≡ upto place.next (length kept)
-    range-new a h = rw (at_same a h) refl
-
-    range-old : (a : Sym) → nat_eq name.0 a.0 ≡ false → range more a ≡ range place.ctxs a
-    range-old a h = rw (ctx-other place.ctxs value a h) refl
-
-    has-old : (a : Sym) → nat_eq name.0 a.0 ≡ false → has (names_of more) a ≡ true → has (names_of place.ctxs) a ≡ true
-    has-old a h t = let e = rw (names-append place.ctxs value) at t in grind (arith, h, e)
-
-    ends-more : (a : Sym) → first_variable_of more a + length (kept_of more a) ≤ place.next + length kept
-    ends-more a = elim (decided (nat_eq name.0 a.0)) [
-      | inl h ↦ rw (at_same a h) (omega arith)
-      | inr h ↦ let e = laid.ends a in rw (ctx-other place.ctxs value a h) (omega (arith, e))
+    is_other : (c : Sym) → has known c ≡ true → nat_eq name.0 c.0 ≡ false
+    is_other c h = elim (decided (nat_eq name.0 c.0)) [
+      | inl same ↦ absurd (let e = same_name name c same in let h' = rw (← e) at h in cc)
+      | inr other ↦ other
     ]
 
-    new-above : (xs : List ℕ) → Below place.next xs → Differ (upto place.next (length kept)) xs
-    new-above xs b i j lt lt' e = Below-Differ-upto place.next (length kept) xs b j i lt' lt (sym e)
+    -- the contexts that were there have the variables that they had
+    old_ones : (c : Sym) → has known c ≡ true → (first c ≡ first c) × (count c ≡ count_of more c)
+    old_ones c h = (refl, rw (ctx-other place.ctxs value c (is_other c h)) refl)
 
-    contexts-more : (a b : Sym) → has (names_of more) a ≡ true → has (names_of more) b ≡ true → nat_eq a.0 b.0 ≡ false → Differ (range more a) (range more b)
-    contexts-more a b ha hb ne = elim (decided (nat_eq name.0 a.0)) [
-      | inl ea ↦ elim (decided (nat_eq name.0 b.0)) [
-        | inl eb ↦ absurd (grind (arith, nat_tests, ea, eb, ne))
-        | inr nb ↦ rw (range-new a ea, range-old b nb) (new-above (range place.ctxs b) (range-below b))
-      ]
-      | inr na ↦ elim (decided (nat_eq name.0 b.0)) [
-        | inl eb ↦ rw (range-old a na, range-new b eb) (Below-Differ-upto place.next (length kept) (range place.ctxs a) (range-below a))
-        | inr nb ↦ rw (range-old a na, range-old b nb) (laid.contexts_apart a b (has-old a na ha) (has-old b nb hb) ne)
-      ]
-    ]
-
-    named-more : (a : Sym) → has (names_of more) a ≡ true → Differ (range more a) place.named
-    named-more a ha = elim (decided (nat_eq name.0 a.0)) [
-      | inl ea ↦ rw (range-new a ea) (new-above place.named laid.named_below)
-      | inr na ↦ rw (range-old a na) (laid.context_named a (has-old a na ha))
-    ]
+    -- the new one has those from the place on
+    all_ones : (c : Sym) → has (name ∷ known) c ≡ true → ((if nat_eq c.0 name.0 then place.next else first c) ≡ first_variable_of more c) × (count_of more c ≡ count_of more c)
+    all_ones c h = (
+      elim (decided (nat_eq c.0 name.0)) [
+        | inl same ↦ let e = same_name c name same in rw (same, e, at_new) refl
+        | inr other ↦ let other' : nat_eq name.0 c.0 ≡ false = grind (arith, nat_tests, other) in rw (other, ctx-other place.ctxs value c other') refl
+      ],
+      refl,
+    )
 
     pub laid-context : IsLaid (past_context name place kept)
     laid-context = record {
       ambient = laid.ambient;
-      ends = ends-more;
-      named_below = Below-more place.next (place.next + length kept) place.named (omega arith) laid.named_below;
-      named_apart = laid.named_apart;
-      contexts_apart = contexts-more;
-      context_named = named-more;
+      apart =
+          let before = laid-same first first count (count_of more) known place.named place.next old_ones laid.apart in
+          let after = laid-same _ (first_variable_of more) (count_of more) (count_of more) (name ∷ known) place.named _ all_ones
+          (context_next first (count_of more) known place.named place.next before name new) in
+          let long : count_of more name ≡ length kept = rw at_new refl in
+          let names : names_of more ≡ name ∷ known = names-append place.ctxs value in
+          rw (names, ← long) after;
     }

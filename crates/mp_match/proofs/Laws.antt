@@ -1,16 +1,14 @@
 -- The laws of matching, one term for each.
 use Rattle.mp_match.specs.Laws.{MatchesAreInstances, TermMatchesAreInstances, AgreeingTerms, AgreeingSequents, AgreesWithOneMore}
 use Rattle.mp_match.proofs.Agreement.{agreeing-terms, agreeing-sequents, agrees-with_more, agrees-more}
-use Rattle.mp_match.proofs.SequentCovers.{sequent-covered}
-use Rattle.mp_match.proofs.SequentMatch.{sequent-instance}
-use Rattle.mp_match.proofs.TermMatch.{term-covered, term-instance}
+use Rattle.mp_match.proofs.SequentMatch.{sequent_matched}
+use Rattle.mp_match.proofs.TermMatch.{term_matched}
 
 pub matches_are_instances : MatchesAreInstances
-matches_are_instances s first goal conclusion two scoped narrow =
-    (sequent-instance s first goal conclusion two scoped narrow, sequent-covered s first goal conclusion two scoped narrow)
+matches_are_instances s first goal conclusion two scoped narrow = sequent_matched s first goal conclusion two scoped narrow
 
 pub term_matches_are_instances : TermMatchesAreInstances
-term_matches_are_instances redex scope t fine lists scoped = (term-instance scope redex t fine lists scoped, term-covered scope redex t fine lists scoped)
+term_matches_are_instances redex scope t fine lists scoped = term_matched scope redex t fine lists scoped
 
 pub agreeing_terms : AgreeingTerms
 agreeing_terms i v w av aw p h g env m = agreeing-terms i v w av aw p h g env m

@@ -1,7 +1,6 @@
 pub mod Agreement
 pub mod Bodies
 pub mod Contexts
-pub mod CoverLaws
 pub mod Covered
 pub mod Ended
 pub mod GivenLaws
@@ -14,7 +13,6 @@ pub mod Layers
 pub mod OtherShapes
 pub mod PatternLaws
 pub mod Ready
-pub mod SequentCovers
 pub mod SequentMatch
 pub mod SequentSizes
 pub mod SequentSpread

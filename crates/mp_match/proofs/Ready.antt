@@ -21,7 +21,7 @@ use Rattle.mp_match.specs.Places.{before, names_of, ground_of, levels_at}
 use Rattle.mp_match.specs.Walks.{taken, needed, size_after, past_named, past_context, hyp_found, kept_found, context_levels, item_found, items_found, first_walk}
 use Rattle.mp_term.specs.Subst.{widest_from}
 use Rattle.mp_term.proofs.EqualTerms.{both_true}
-use Rattle.mp_match.proofs.Laid.{IsLaid, laid-named, laid-context, names-append}
+use Rattle.mp_match.proofs.Laid.{IsLaid, laid-nothing, laid-named, laid-context, names-append}
 use Rattle.mp_match.proofs.Kept.{widest_from-ge, widest_from-drop, in_scopes-drop}
 use Rattle.mp_match.proofs.Contexts.{kept-length}
 
@@ -33,20 +33,10 @@ pub record Ready (sizes : Sizes) (hyps : List Term) (items : List Item) (place :
   pub scoped : in_scopes_from place.next (drop place.next hyps) ≡ true
   pub narrow : widest_from place.next (drop place.next hyps) < 2 ^ 31
 
-nothing_laid : IsLaid first_walk.place
-nothing_laid = record {
-  ambient = refl;
-  ends = λ name. omega arith;
-  named_below = λ i lt. absurd (omega arith);
-  named_apart = λ i j lt inside. absurd (omega arith);
-  contexts_apart = λ a b ha hb ne. absurd (cc);
-  context_named = λ a ha. absurd (cc);
-}
-
 pub Ready-init : (sizes : Sizes) (hyps : List Term) (items : List Item) → each_item item_placed items nothing_before ≡ true → each_item item_fine items nothing_before ≡ true →
     needed items sizes.first sizes.later ≡ length hyps → in_scopes_from 0 hyps ≡ true → widest_from 0 hyps < 2 ^ 31 → Ready sizes hyps items first_walk.place
 Ready-init sizes hyps items placed fine counted scoped narrow = record {
-  laid = nothing_laid;
+  laid = laid-nothing;
   placed = placed;
   fine = fine;
   counted = omega (arith, counted);

@@ -1,5 +1,5 @@
 -- A sequent's match is its instance.
-use Rattle.std.proofs.Common.{◌≡◌, ℕ, ◌+◌, ◌-◌, ◌<◌, ◌^◌, List, [], ◌∷◌, length, zero, suc, Bool, true, false, ◌||◌, nat_eq, nat_lt, IsTrue, IsSome, ◌↔◌, Option, Some, None, ◌⊎◌, inl, inr, option_and_then, Result, Ok, Err, IfOk, refl, sym, subst, ap, ◌∙◌, arith}
+use Rattle.std.proofs.Common.{◌≡◌, ℕ, ◌+◌, ◌-◌, ◌<◌, ◌^◌, List, [], ◌∷◌, length, zero, suc, Bool, true, false, ◌||◌, nat_eq, nat_lt, IsTrue, IsSome, ◌↔◌, Option, Some, None, ◌⊎◌, inl, inr, option_and_then, IfSome, refl, sym, subst, ap, ◌∙◌, arith}
 use Rattle.std.specs.Option.{option_map}
 use Rattle.std.specs.List.{list_all}
 use Rattle.std.proofs.lemmas.Bool.Decides.{nat_tests}
@@ -16,7 +16,8 @@ use Rattle.mp_schema.specs.declared.schema.Schema.{Schema}
 use Rattle.mp_schema.specs.Instances.{fits}
 use Rattle.mp_schema.specs.Sequents.{Instance, Spot, first_spot, hyps_of, hyps_from, behind, behind_all, concl_at, item_fits, wide_of}
 use Rattle.mp_schema.specs.Conditions.{Before, past, past_all, nothing_before, has, contexts_among, is_conclusion, has_two_contexts}
-use Rattle.mp_schema.specs.Values.{kept_or, instance_of}
+use Rattle.mp_schema.specs.Occurrences.{occurrences_in_schema, holes_in_schema}
+use Rattle.mp_schema.specs.Values.{instance_of}
 use Rattle.mp_match.specs.declared.place.Found.{Found}
 use Rattle.mp_match.specs.declared.place.Walk.{Walk}
 use Rattle.mp_match.specs.declared.sizes.Sizes.{Sizes}
@@ -32,8 +33,11 @@ use Rattle.mp_match.proofs.Solving.{Solves}
 use Rattle.mp_match.proofs.Ready.{Ready, before-all}
 use Rattle.mp_match.proofs.SequentSizes.{GivenTwo, given-two, sizes-counted}
 use Rattle.mp_match.proofs.Ended.{started, end-laid, end-known, end-fine, end-next, end-scoped}
-use Rattle.mp_match.proofs.TermMatch.{meets_itself, meets_nothing}
-use Rattle.mp_match.proofs.Ties.{HasContexts, At, asks-makes, makes-asks, solved-here}
+use Rattle.mp_schema.proofs.OneGoal.{one_instance}
+use Rattle.mp_match.specs.Covering.{schema_covered}
+use Rattle.mp_match.proofs.Covered.{agrees_itself, covered_where_one}
+use Rattle.mp_match.proofs.TermMatch.{meets_nothing}
+use Rattle.mp_match.proofs.Ties.{At, asks-makes, makes-asks, solved-here}
 use Rattle.mp_match.proofs.ItemLaws.{Tied}
 use Rattle.mp_schema.proofs.Rows.{telescope-length}
 use Rattle.mp_match.proofs.WalkLaws.{IsSized, items-sound, items-complete, items-sized}
@@ -161,38 +165,43 @@ module _ (s : Schema) (first : Option ℕ) (goal : Sequent) (conclusion : IsTrue
             record { ambient = h.ambient ∙ sym laid.ambient; ctxs = tied.ctxs; metas = m.metas; params = m.params },
           )
 
-      -- and what is found is an instance
-      found-gives : (f : Found) → found_in (ground_of w.place) s.concl (levels_at w.place w.place.next) w.place.next goal.concl w.found ≡ Some f →
-          GivesGoal s first goal (instance_of (as_instance w.place f)) × Begins (as_instance w.place f) s
-      found-gives f e =
+      -- and each instance that has what is found is one
+      found-gives : (f : Found) → found_in (ground_of w.place) s.concl (levels_at w.place w.place.next) w.place.next goal.concl w.found ≡ Some f → (v : Instance) →
+          Agrees v (as_instance w.place f) → GivesGoal s first goal v × At (behind_all v s.items first_spot) w.place
+      found-gives f e v a =
           let laid = end-laid s goal conclusion scoped narrow sizes counted w walked in
           let known = end-known s goal conclusion scoped narrow sizes counted w walked in
           let next = end-next s goal conclusion scoped narrow sizes counted w walked in
-          let v : Instance = instance_of (as_instance w.place f) in
-          let ctxs : HasContexts v w.place = λ name x is. ap kept_or is in
-          let c = solved.sound v.values f e (meets_itself f) in
-          let tied : Tied v w = record { meets = c.0; ctxs = ctxs } in
-          let all = (items-sound sizes goal.hyps v laid.ambient s.items first_walk w start walked next tied).1 first_spot nothing-at in
-          let m = asks-makes v (behind_all v s.items first_spot) w.place laid.ambient laid ctxs all.2 s.concl goal.concl known c.1 in
-          let sized = items-sized sizes goal.hyps v laid.ambient s.items first_walk w start walked next tied in (
+          let ambient : v.ambient ≡ 0 = a.ambient ∙ laid.ambient in
+          let c = solved.sound v.values f e (record { metas = a.metas; params = a.params }) in
+          let tied : Tied v w = record { meets = c.0; ctxs = a.ctxs } in
+          let all = (items-sound sizes goal.hyps v ambient s.items first_walk w start walked next tied).1 first_spot nothing-at in
+          let m = asks-makes v (behind_all v s.items first_spot) w.place ambient laid a.ctxs all.2 s.concl goal.concl known c.1 in
+          let sized = items-sized sizes goal.hyps v ambient s.items first_walk w start walked next tied in (
             record {
-              ambient = laid.ambient;
+              ambient = ambient;
               fit = and_true (list_all (item_fits v) s.items) (fits (wide_of v) v.values s.concl) all.0 m.0;
               sized = has-first-of v s first (length goal.hyps) sizes shares sized;
               same = same_sequent (hyps_from v s.items first_spot) goal.hyps (concl_at v s.concl (behind_all v s.items first_spot)) goal.concl all.1 m.1;
             },
-            λ name h.
-                let b = before-all sizes goal.hyps s.items first_walk w walked in
-                let h' : has (names_of w.place.ctxs) name ≡ true = subst (λ (b : Before). has b.contexts name ≡ true) (sym b) (past-has s.items nothing_before name (inr h)) in
-                sym (all.2.pos name h'),
+            all.2,
           ) where
             same_sequent : (hs hs' : List Term) (c c' : Term) → hs ≡ hs' → c ≡ c' → ◌≡◌ {A = Sequent} (record { hyps = hs; concl = c }) (record { hyps = hs'; concl = c' })
             same_sequent hs hs' c c' p q = rw (p, q) refl
 
+      found-begins : (f : Found) → At (behind_all (instance_of (as_instance w.place f)) s.items first_spot) w.place → Begins (as_instance w.place f) s
+      found-begins f at name h =
+          let b = before-all sizes goal.hyps s.items first_walk w walked in
+          let h' : has (names_of w.place.ctxs) name ≡ true = subst (λ (b : Before). has b.contexts name ≡ true) (sym b) (past-has s.items nothing_before name (inr h)) in
+          sym (at.pos name h')
+
       concl-sound : (o : Option Found) → found_in (ground_of w.place) s.concl (levels_at w.place w.place.next) w.place.next goal.concl w.found ≡ o →
-          (i : Inst) → option_map (as_instance w.place) o ≡ Some i → GivesGoal s first goal (instance_of i) × Begins i s
+          (i : Inst) → option_map (as_instance w.place) o ≡ Some i → ((v : Instance) → Agrees v i → GivesGoal s first goal v) × Begins i s
       concl-sound None e i is = absurd (cc)
-      concl-sound (Some f) e i is = let is' : i ≡ as_instance w.place f = cc in rw is' (found-gives f e)
+      concl-sound (Some f) e i is =
+          let is' : i ≡ as_instance w.place f = cc in
+          let itself = found-gives f e (instance_of (as_instance w.place f)) (agrees_itself (as_instance w.place f)) in
+          rw is' (λ v a. (found-gives f e v a).0, found-begins f itself.1)
 
   complete-all : (v : Instance) → GivesGoal s first goal v → (i : Inst) × (match_of s first goal ≡ Some i) × Agrees v i
   complete-all v h =
@@ -204,22 +213,22 @@ module _ (s : Schema) (first : Option ℕ) (goal : Sequent) (conclusion : IsTrue
       let c = concl-complete share.0 share.1 walked.0 walked.1 v h walked.2 walked.3 in
       (c.0, rw (share.1, walked.1) c.1, c.2)
 
-  sound-all : (i : Inst) → match_of s first goal ≡ Some i → GivesGoal s first goal (instance_of i) × Begins i s
+  sound-all : (i : Inst) → match_of s first goal ≡ Some i → ((v : Instance) → Agrees v i → GivesGoal s first goal v) × Begins i s
   sound-all i e =
       option_and_then_some (λ (sizes : Sizes). option_and_then (concl_found s.concl goal.concl) (items_found sizes goal.hyps s.items first_walk))
       (sizes_of s.items first (length goal.hyps)) i e (λ sizes shares rest.
       option_and_then_some (concl_found s.concl goal.concl) (items_found sizes goal.hyps s.items first_walk) i rest (λ w walked k.
       concl-sound sizes shares w walked (found_in (ground_of w.place) s.concl (levels_at w.place w.place.next) w.place.next goal.concl w.found) refl i k))
 
-  instance-of : (o : Option Inst) → match_of s first goal ≡ o → IsInstance s first goal o
-  instance-of None e = λ v h. let r = complete-all v h in absurd (let k = r.1 in cc)
-  instance-of (Some i) e =
+  matched : (o : Option Inst) → match_of s first goal ≡ o → IsInstance s first goal o × IfSome o (λ i. IsTrue (schema_covered i s))
+  matched None e = (λ v h. let r = complete-all v h in absurd (let k = r.1 in cc), tt)
+  matched (Some i) e =
       let a = sound-all i e in
-      (a.0, a.1, λ v h. let r = complete-all v h in let k = r.1 in let is : r.0 ≡ i = cc in rw (← is) r.2)
+      let itself = a.0 (instance_of i) (agrees_itself i) in (
+        (itself, a.1, λ v h. let r = complete-all v h in let k = r.1 in let is : r.0 ≡ i = cc in rw (← is) r.2),
+        covered_where_one i (occurrences_in_schema s) (holes_in_schema s) (λ v b. one_instance s first goal (instance_of i) v conclusion two.1 itself (a.0 v b)),
+      )
 
-  pub sequent-instance : IsInstance s first goal (match_of s first goal)
-  sequent-instance = instance-of (match_of s first goal) refl
-
-  pub sequent-instance-ok : {E : Type 0} (r : Result (Option Inst) E) → IfOk r (λ i. i ≡ match_of s first goal) → IfOk r (IsInstance s first goal)
-  sequent-instance-ok (Ok i) h = rw h sequent-instance
-  sequent-instance-ok (Err e) h = tt
+  -- what is found is the instance, with a value for each name
+  pub sequent_matched : IsInstance s first goal (match_of s first goal) × IfSome (match_of s first goal) (λ i. IsTrue (schema_covered i s))
+  sequent_matched = matched (match_of s first goal) refl

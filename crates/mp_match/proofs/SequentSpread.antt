@@ -1,7 +1,7 @@
 -- Where the variables of the contexts that a match finds lie in the goal.
-use Rattle.std.proofs.Common.{◌≡◌, ℕ, ◌<◌, ◌^◌, List, length, Option, Some, None, option_and_then, IsTrue, IsSome, ◌↔◌, refl, ap, ◌∙◌, subst, arith}
+use Rattle.std.proofs.Common.{◌≡◌, ℕ, ◌<◌, ◌^◌, List, length, Option, Some, None, option_and_then, IsTrue, IsSome, ◌↔◌, refl, ap, ◌∙◌, arith}
 use Rattle.std.specs.Option.{option_map}
-use Rattle.std.specs.Prelude.{Result, Ok, Err, IfOk, IfSome}
+use Rattle.std.specs.Prelude.{IfSome}
 use Rattle.std.proofs.lemmas.Option.{option_and_then_some}
 use Rattle.mp_logic.specs.declared.sym.Sym.{Sym}
 use Rattle.mp_term.specs.declared.sequent.Sequent.{Sequent}
@@ -19,9 +19,9 @@ use Rattle.mp_match.specs.Places.{names_of, ground_of, levels_at}
 use Rattle.mp_match.specs.Spread.{IsSpread}
 use Rattle.mp_match.specs.Walks.{sizes_of, items_found, first_walk, concl_found, match_of}
 use Rattle.mp_term.specs.Subst.{widest_in_sequent}
-use Rattle.mp_schema.proofs.Apart.{Apart, Below, Apart-to, Apart-left, Below-to, Below-left}
+use Rattle.mp_schema.proofs.Apart.{Below-to}
 use Rattle.mp_match.proofs.Ended.{end-laid, end-next}
-use Rattle.mp_match.proofs.Laid.{ground-variables, ground-apart, ground-below, ctx-none}
+use Rattle.mp_match.proofs.Laid.{laid-ends, variables-distinct, variables-below, ctx-none}
 use Rattle.mp_match.proofs.Ready.{before-all}
 use Rattle.mp_match.proofs.SequentSizes.{given-two, sizes-counted}
 
@@ -38,12 +38,9 @@ module _ (s : Schema) (first : Option ℕ) (goal : Sequent) (conclusion : IsTrue
         record {
           distinct = λ names e.
               let known : IsTrue (is_known (names_of w.place.ctxs) names) = ap (λ (ks : List Sym). is_known ks names) named ∙ e in
-              Apart-to (variables_of w.place.ctxs names)
-              (subst Apart (ground-variables w.place laid names) (Apart-left (ground_of w.place names) w.place.named (ground-apart w.place laid names known)));
-          below = λ names.
-              let k = Below-left (ground_of w.place names) w.place.named w.place.next (ground-below w.place laid names) in
-              rw next at (Below-to w.place.next (variables_of w.place.ctxs names) (subst (Below w.place.next) (ground-variables w.place laid names) k));
-          few = λ name. let e = laid.ends name in omega (arith, next);
+              variables-distinct w.place laid names known;
+          below = λ names. rw next at (Below-to w.place.next (variables_of w.place.ctxs names) (variables-below w.place laid names));
+          few = λ name. let e = laid-ends w.place laid name in omega (arith, next);
           others = λ name e. ctx-none w.place.ctxs name (ap (λ (ks : List Sym). has ks name) named ∙ e);
         }
 
@@ -59,10 +56,6 @@ module _ (s : Schema) (first : Option ℕ) (goal : Sequent) (conclusion : IsTrue
       option_and_then_some (concl_found s.concl goal.concl) (items_found sizes goal.hyps s.items first_walk) i rest (λ w walked k.
       spread_concl sizes shares w walked (found_in (ground_of w.place) s.concl (levels_at w.place w.place.next) w.place.next goal.concl w.found) i k))
 
-  spreads : (o : Option Inst) → match_of s first goal ≡ o → IfSome o (λ i. IsSpread i s goal)
-  spreads None e = tt
-  spreads (Some i) e = match_spreads i e
-
-  pub sequent-spread-ok : {E : Type 0} (r : Result (Option Inst) E) → IfOk r (λ i. i ≡ match_of s first goal) → IfOk r (λ o. IfSome o (λ i. IsSpread i s goal))
-  sequent-spread-ok (Ok i) h = rw h (spreads (match_of s first goal) refl)
-  sequent-spread-ok (Err e) h = tt
+  pub sequent_spread : (o : Option Inst) → match_of s first goal ≡ o → IfSome o (λ i. IsSpread i s goal)
+  sequent_spread None e = tt
+  sequent_spread (Some i) e = match_spreads i e

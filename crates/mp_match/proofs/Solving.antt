@@ -1,5 +1,6 @@
 -- What a step of a match finds is what its equation asks.
 use Rattle.std.proofs.Common.{◌≡◌, List, [], ◌∷◌, ◌++◌, Bool, true, false, Option, Some, None, nat_eq, if◌then◌else◌, option_and_then, ◌⊎◌, inl, inr, refl, sym, ap, ◌∙◌, arith}
+use Rattle.std.specs.Option.{option_or}
 use Rattle.mp_logic.specs.declared.sym.Sym.{Sym}
 use Rattle.mp_term.specs.declared.term.Param.{Param}
 use Rattle.mp_schema.specs.declared.instance.MetaVal.{MetaVal}
@@ -62,64 +63,45 @@ module _ (P : Values → Type 0) where
         (h f).complete v here p.1;
   }
 
--- an earlier value stays
-pub meta-kept : (xs : List MetaVal) (x y : MetaVal) (name : Sym) → find_meta xs name ≡ Some y → find_meta (xs ++ x ∷ []) name ≡ Some y
-meta-kept [] x y name e = absurd (cc)
-meta-kept (z ∷ xs) x y name e = elim (decided (nat_eq z.name.0 name.0)) [
-  | inl h ↦ grind (arith, h)
-  | inr h ↦ let e' : find_meta xs name ≡ Some y = grind (arith, h) in let r = meta-kept xs x y name e' in grind (arith, h, r)
+-- ## Look-ups behind one more value
+
+-- what is found is an earlier one, or the last one, whose name it is
+pub last_or_earlier : {X : Type 0} (earlier : Option X) (own name : Sym) (x y : X) → option_or earlier (if nat_eq own.0 name.0 then Some x else None) ≡ Some y →
+    (earlier ≡ Some y) ⊎ ((own ≡ name) × (y ≡ x))
+last_or_earlier (Some z) own name x y e = inl e
+last_or_earlier None own name x y e = elim (decided (nat_eq own.0 name.0)) [
+  | inl same ↦ inr (same_name own name same, let e' = rw same at e in cc)
+  | inr other ↦ absurd (let e' = rw other at e in cc)
 ]
 
+meta-append : (xs : List MetaVal) (x : MetaVal) (name : Sym) → find_meta (xs ++ x ∷ []) name ≡ option_or (find_meta xs name) (if nat_eq x.name.0 name.0 then Some x else None)
+meta-append [] x name = refl
+meta-append (z ∷ xs) x name = elim (decided (nat_eq z.name.0 name.0)) [ inl h ↦ rw h refl | inr h ↦ rw h (meta-append xs x name) ]
+
+pub meta-kept : (xs : List MetaVal) (x y : MetaVal) (name : Sym) → find_meta xs name ≡ Some y → find_meta (xs ++ x ∷ []) name ≡ Some y
+meta-kept xs x y name e = rw (meta-append xs x name, e) refl
+
 pub meta-new : (xs : List MetaVal) (x : MetaVal) → find_meta xs x.name ≡ None → find_meta (xs ++ x ∷ []) x.name ≡ Some x
-meta-new [] x e = let h = same_name-refl x.name in grind (arith, h)
-meta-new (z ∷ xs) x e = elim (decided (nat_eq z.name.0 x.name.0)) [
-  | inl h ↦ absurd (grind (arith, h))
-  | inr h ↦ let e' : find_meta xs x.name ≡ None = grind (arith, h) in let r = meta-new xs x e' in grind (arith, h, r)
-]
+meta-new xs x e = let same = same_name-refl x.name in rw (meta-append xs x x.name, e, same) refl
 
 pub meta-either : (xs : List MetaVal) (x y : MetaVal) (name : Sym) → find_meta (xs ++ x ∷ []) name ≡ Some y →
     (find_meta xs name ≡ Some y) ⊎ ((x.name ≡ name) × (y ≡ x))
-meta-either [] x y name e = elim (decided (nat_eq x.name.0 name.0)) [
-  | inl h ↦ inr (same_name x.name name h, grind (arith, h))
-  | inr h ↦ absurd (grind (arith, h))
-]
-meta-either (z ∷ xs) x y name e = elim (decided (nat_eq z.name.0 name.0)) [
-  | inl h ↦ inl (grind (arith, h))
-  | inr h ↦ let e' : find_meta (xs ++ x ∷ []) name ≡ Some y = grind (arith, h) in
-      elim (meta-either xs x y name e') [
-        | inl k ↦ inl (grind (arith, h, k))
-        | inr k ↦ inr k
-      ]
-]
+meta-either xs x y name e = last_or_earlier (find_meta xs name) x.name name x y (sym (meta-append xs x name) ∙ e)
 
-pub param-kept : (xs : List ParamVal) (x : ParamVal) (y : Param) (name : Sym) → find_param xs name ≡ Some y → find_param (xs ++ x ∷ []) name ≡ Some y
-param-kept [] x y name e = absurd (cc)
-param-kept (z ∷ xs) x y name e = elim (decided (nat_eq z.name.0 name.0)) [
-  | inl h ↦ grind (arith, h)
-  | inr h ↦ let e' : find_param xs name ≡ Some y = grind (arith, h) in let r = param-kept xs x y name e' in grind (arith, h, r)
-]
+param-append : (xs : List ParamVal) (x : ParamVal) (name : Sym) →
+    find_param (xs ++ x ∷ []) name ≡ option_or (find_param xs name) (if nat_eq x.name.0 name.0 then Some x.value else None)
+param-append [] x name = refl
+param-append (z ∷ xs) x name = elim (decided (nat_eq z.name.0 name.0)) [ inl h ↦ rw h refl | inr h ↦ rw h (param-append xs x name) ]
 
-pub param-new : (xs : List ParamVal) (x : ParamVal) → find_param xs x.name ≡ None → find_param (xs ++ x ∷ []) x.name ≡ Some x.value
-param-new [] x e = let h = same_name-refl x.name in grind (arith, h)
-param-new (z ∷ xs) x e = elim (decided (nat_eq z.name.0 x.name.0)) [
-  | inl h ↦ absurd (grind (arith, h))
-  | inr h ↦ let e' : find_param xs x.name ≡ None = grind (arith, h) in let r = param-new xs x e' in grind (arith, h, r)
-]
+param-kept : (xs : List ParamVal) (x : ParamVal) (y : Param) (name : Sym) → find_param xs name ≡ Some y → find_param (xs ++ x ∷ []) name ≡ Some y
+param-kept xs x y name e = rw (param-append xs x name, e) refl
 
-pub param-either : (xs : List ParamVal) (x : ParamVal) (y : Param) (name : Sym) → find_param (xs ++ x ∷ []) name ≡ Some y →
+param-new : (xs : List ParamVal) (x : ParamVal) → find_param xs x.name ≡ None → find_param (xs ++ x ∷ []) x.name ≡ Some x.value
+param-new xs x e = let same = same_name-refl x.name in rw (param-append xs x x.name, e, same) refl
+
+param-either : (xs : List ParamVal) (x : ParamVal) (y : Param) (name : Sym) → find_param (xs ++ x ∷ []) name ≡ Some y →
     (find_param xs name ≡ Some y) ⊎ ((x.name ≡ name) × (y ≡ x.value))
-param-either [] x y name e = elim (decided (nat_eq x.name.0 name.0)) [
-  | inl h ↦ inr (same_name x.name name h, grind (arith, h))
-  | inr h ↦ absurd (grind (arith, h))
-]
-param-either (z ∷ xs) x y name e = elim (decided (nat_eq z.name.0 name.0)) [
-  | inl h ↦ inl (grind (arith, h))
-  | inr h ↦ let e' : find_param (xs ++ x ∷ []) name ≡ Some y = grind (arith, h) in
-      elim (param-either xs x y name e') [
-        | inl k ↦ inl (grind (arith, h, k))
-        | inr k ↦ inr k
-      ]
-]
+param-either xs x y name e = last_or_earlier (find_param xs name) x.name name x.value y (sym (param-append xs x name) ∙ e)
 
 -- one more value of a hole
 pub hole_new : (old : Found) (x : ParamVal) → find_param old.params x.name ≡ None →

@@ -1,5 +1,5 @@
 -- A term's match is its instance.
-use Rattle.std.proofs.Common.{◌≡◌, ℕ, ◌+◌, ◌-◌, List, [], ◌∷◌, length, IsTrue, Option, Some, None, Result, Ok, Err, IfOk, IfSome, append-nil, refl, sym, ap, ◌∙◌, arith}
+use Rattle.std.proofs.Common.{◌≡◌, ℕ, ◌+◌, ◌-◌, List, [], ◌∷◌, length, IsTrue, Option, Some, None, IfSome, append-nil, refl, sym, ap, ◌∙◌, arith}
 use Rattle.std.specs.Option.{option_map}
 use Rattle.mp_logic.specs.declared.sym.Sym.{Sym}
 use Rattle.mp_term.specs.declared.term.Term.{Term}
@@ -10,7 +10,8 @@ use Rattle.mp_schema.specs.Instances.{Values, Ground, inst_of, fits}
 use Rattle.mp_term.specs.Subst.{upto}
 use Rattle.mp_schema.specs.Sequents.{Instance}
 use Rattle.mp_schema.specs.Conditions.{seen, lists_known}
-use Rattle.mp_schema.specs.Values.{values_of, body_or, instance_of, variables_of}
+use Rattle.mp_schema.specs.Occurrences.{occurrences_in, holes_in}
+use Rattle.mp_schema.specs.Values.{instance_of, variables_of}
 use Rattle.mp_match.specs.declared.place.Found.{Found}
 use Rattle.mp_match.specs.Covering.{is_covered}
 use Rattle.mp_match.specs.Matching.{found_in}
@@ -19,7 +20,8 @@ use Rattle.mp_match.specs.Places.{ground_of, levels_at, IsUsable}
 use Rattle.mp_schema.specs.Solutions.{Agrees, GivesTerm, IsTermInstance, ambient_only}
 use Rattle.mp_schema.proofs.Apart.{Apart-to, Below-to, Apart-upto, Below-upto}
 use Rattle.mp_term.proofs.Ranges.{length-upto}
-use Rattle.mp_match.proofs.CoverLaws.{pattern-covered}
+use Rattle.mp_schema.proofs.OneGoal.{one_term}
+use Rattle.mp_match.proofs.Covered.{agrees_itself, covered_where_one}
 use Rattle.mp_schema.proofs.KnownLists.{inst-known, fits-known}
 use Rattle.mp_match.proofs.PatternLaws.{Usable, Asks, pattern-solved}
 use Rattle.mp_match.proofs.Solving.{Meets, Solves}
@@ -48,9 +50,6 @@ usable scope = record {
   below = λ names h. rw (ground-ambient scope names, append-nil (upto 0 scope)) (let e : 0 + scope ≡ scope = omega arith in rw e at (Below-upto 0 scope));
 }
 
-pub meets_itself : (f : Found) → Meets (values_of f.metas f.params) f
-meets_itself f = record { metas = λ name x e. ap body_or e; params = λ name p e. rw e refl }
-
 pub meets_nothing : (v : Values) → Meets v nothing_found
 meets_nothing v = record { metas = λ name x e. absurd (cc); params = λ name p e. absurd (cc) }
 
@@ -74,37 +73,29 @@ module _ (scope : ℕ) (p : Pattern) (t : Term) (fine : IsTrue ((seen p).fine 0)
   asks-from : (v : Instance) → GivesTerm scope p t v → Asks ground [] p [] scope t v.values
   asks-from v h = (same_fit v.values ∙ h.fit, same_inst v.values ∙ h.same)
 
-  agrees-from : (v : Instance) (f : Found) → v.ambient ≡ scope → Meets v.values f → Agrees v (as_instance (term_place scope) f)
-  agrees-from v f is m = record { ambient = is; ctxs = λ name x e. absurd (cc); metas = m.metas; params = m.params }
+  -- an instance with the values that are found makes the pattern the term
+  found_gives : (f : Found) → found_in ground p (levels_at (term_place scope) scope) scope t nothing_found ≡ Some f → (v : Instance) → Agrees v (as_instance (term_place scope) f) →
+      GivesTerm scope p t v
+  found_gives f e v a = asks-to v a.ambient (solved.sound v.values f e (record { metas = a.metas; params = a.params })).1
 
-  term-instance-of : (o : Option Found) → found_in ground p (levels_at (term_place scope) scope) scope t nothing_found ≡ o →
-      IsTermInstance scope p t (option_map (as_instance (term_place scope)) o)
-  term-instance-of None e = λ v h. let r = solved.complete v.values (meets_nothing v.values) (asks-from v h) in absurd (let e' = r.1 in cc)
-  term-instance-of (Some f) e = (
-    asks-to (instance_of (as_instance (term_place scope) f)) refl (solved.sound (values_of f.metas f.params) f e (meets_itself f)).1,
-    λ v h.
-        let r = solved.complete v.values (meets_nothing v.values) (asks-from v h) in
-        let e' = r.1 in
-        let is : r.0 ≡ f = cc in
-        agrees-from v f h.ambient (rw is at r.2),
-  )
+  matched : (o : Option Found) → found_in ground p (levels_at (term_place scope) scope) scope t nothing_found ≡ o →
+      IsTermInstance scope p t (option_map (as_instance (term_place scope)) o) × IfSome (option_map (as_instance (term_place scope)) o) (λ i. IsTrue (is_covered i p))
+  matched None e = (λ v h. let r = solved.complete v.values (meets_nothing v.values) (asks-from v h) in absurd (let e' = r.1 in cc), tt)
+  matched (Some f) e =
+      let i : Inst = as_instance (term_place scope) f in
+      let itself = found_gives f e (instance_of i) (agrees_itself i) in (
+        (
+          itself,
+          λ v h.
+              let r = solved.complete v.values (meets_nothing v.values) (asks-from v h) in
+              let e' = r.1 in
+              let is : r.0 ≡ f = cc in
+              let m : Meets v.values f = rw is at r.2 in
+              record { ambient = h.ambient; ctxs = λ name x k. absurd (cc); metas = m.metas; params = m.params },
+        ),
+        covered_where_one i (occurrences_in p) (holes_in p) (λ v a. one_term scope p t (instance_of i) v fine lists itself (found_gives f e v a)),
+      )
 
-  pub term-instance : IsTermInstance scope p t (term_match p scope t)
-  term-instance = term-instance-of (found_in ground p (levels_at (term_place scope) scope) scope t nothing_found) refl
-
-  pub term-instance-ok : {E : Type 0} (r : Result (Option Inst) E) → IfOk r (λ i. i ≡ term_match p scope t) → IfOk r (IsTermInstance scope p t)
-  term-instance-ok (Ok i) h = rw h term-instance
-  term-instance-ok (Err e) h = tt
-
-  covered-of : (o : Option Found) → found_in ground p (levels_at (term_place scope) scope) scope t nothing_found ≡ o →
-      IfSome (option_map (as_instance (term_place scope)) o) (λ i. IsTrue (is_covered i p))
-  covered-of None e = tt
-  covered-of (Some f) e =
-      (pattern-covered ground p [] scope t nothing_found fine f (rw (levels-none scope) at e)).1
-
-  pub term-covered : IfSome (term_match p scope t) (λ i. IsTrue (is_covered i p))
-  term-covered = covered-of (found_in ground p (levels_at (term_place scope) scope) scope t nothing_found) refl
-
-  pub term-covered-ok : {E : Type 0} (r : Result (Option Inst) E) → IfOk r (λ i. i ≡ term_match p scope t) → IfOk r (λ r'. IfSome r' (λ i. IsTrue (is_covered i p)))
-  term-covered-ok (Ok i) h = rw h term-covered
-  term-covered-ok (Err e) h = tt
+  -- what is found is the instance, with a value for each name
+  pub term_matched : IsTermInstance scope p t (term_match p scope t) × IfSome (term_match p scope t) (λ i. IsTrue (is_covered i p))
+  term_matched = matched (found_in ground p (levels_at (term_place scope) scope) scope t nothing_found) refl

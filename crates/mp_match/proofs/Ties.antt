@@ -1,5 +1,5 @@
 -- How an instance and its spot stand to what is found before a place.
-use Rattle.std.proofs.Common.{◌≡◌, ℕ, ◌-◌, List, [], ◌∷◌, length, map, true, IsTrue, Some, append-nil, refl, sym, ap, ◌∙◌, arith}
+use Rattle.std.proofs.Common.{◌≡◌, ℕ, ◌-◌, List, [], ◌∷◌, ◌++◌, length, map, true, IsTrue, Some, append-nil, refl, sym, ap, ◌∙◌, arith}
 use Rattle.mp_logic.specs.declared.sym.Sym.{Sym}
 use Rattle.mp_term.specs.declared.term.Term.{Term, Var}
 use Rattle.mp_term.specs.Terms.{in_scope_of}
@@ -16,7 +16,8 @@ use Rattle.mp_match.specs.declared.place.Position.{Position}
 use Rattle.mp_match.specs.Matching.{found_in}
 use Rattle.mp_match.specs.Places.{ground_of, levels_at, names_of}
 use Rattle.mp_term.proofs.EqualTerms.{both_true}
-use Rattle.mp_match.proofs.Laid.{IsLaid, ctx-some, ground-apart, ground-below}
+use Rattle.mp_match.proofs.Laid.{IsLaid, ctx-some, ground-distinct, ground-below}
+use Rattle.mp_schema.proofs.Apart.{Apart-from}
 use Rattle.mp_schema.proofs.KnownLists.{inst-known, fits-known}
 use Rattle.mp_match.proofs.PatternLaws.{Usable, Asks, pattern-solved}
 use Rattle.mp_match.proofs.Solving.{Solves}
@@ -75,7 +76,7 @@ module _ (v : Instance) (l : Spot) (place : Position) (ambient : v.ambient ≡ 0
 
 laid-usable-at : (place : Position) → IsLaid place → Usable (ground_of place) (names_of place.ctxs) place.named place.next
 laid-usable-at place laid = record {
-  distinct = λ names h. ground-apart place laid names h;
+  distinct = λ names h. Apart-from (ground_of place names ++ place.named) (ground-distinct place laid names h);
   below = λ names h. ground-below place laid names;
 }
 

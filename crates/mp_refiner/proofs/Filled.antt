@@ -14,7 +14,7 @@ use Rattle.mp_schema.specs.declared.schema.Schema.{Schema}
 use Rattle.mp_schema.specs.Conditions.{has, has_all, context_names}
 use Rattle.mp_schema.specs.Faultless.{occurrence_fits}
 use Rattle.mp_schema.specs.Occurrences.{Occurrence, occurrences_in, occurrences_in_item, occurrences_in_schema, holes_in_schema}
-use Rattle.mp_schema.specs.Sequents.{Instance, wide_of, seq, schema_fits}
+use Rattle.mp_schema.specs.Sequents.{Instance, wide_of, schema_fits}
 use Rattle.mp_schema.specs.Values.{find_meta, find_param, find_ctx, body_or, kept_or, kept_of, instance_of}
 use Rattle.mp_schema.proofs.Fitting.{schema_fits-told}
 use Rattle.mp_match.specs.Covering.{is_there}
@@ -28,7 +28,6 @@ use Rattle.mp_refiner.specs.Steps.{given_all}
 use Rattle.mp_schema.specs.Occurrences.{In}
 use Rattle.mp_schema.proofs.Lists.{in-left, all-in, each-all, in-each}
 use Rattle.mp_schema.proofs.UseKinds.{Kind, kind_of, context_occurs}
-use Rattle.mp_theory.proofs.SamePremises.{same_premises}
 use Rattle.mp_theory.proofs.Transfer.{kind_of_need, transfer}
 use Rattle.mp_schema.proofs.Agreeing.{and_both, SameAt, SameHole, same_seq, same_place}
 use Rattle.mp_schema.specs.Solutions.{SameValue}
@@ -152,17 +151,6 @@ module _ (ps : List Schema) (c : Schema) (first : Option ℕ) (given : List Give
 
     pub meets_made : MeetsAll made c needs given
     meets_made = by_meets made c i (laid_as made gives_made) needs given (need_listed ps c a.rule) (fill.meets made (agrees_itself new))
-
-    -- ## The premises
-
-    agree_need : (u w : Instance) → Agrees u new → Agrees w new → (n : Need) → In n needs → SameAt u w (kind_of_need n)
-    agree_need u w x y n j = let e = fill.found n j in x.metas n.name e.0 e.1 ∙ sym (y.metas n.name e.0 e.1)
-
-    -- instances that agree with what is given make the same subgoals
-    pub same_kids : (u w : Instance) → Agrees u new → Agrees w new → map (seq u) ps ≡ map (seq w) ps
-    same_kids u w x y =
-        let before = λ (v : Instance) (z : Agrees v new). agrees-before v i new fill.grown z in
-        same_premises ps c a.rule u w (agree_ambient new u w x y) (agree_known u w (before u x) (before w y)) (agree_holes u w (before u x) (before w y)) (agree_need u w x y)
 
 -- ## The values of premises fit
 

@@ -120,7 +120,6 @@ module _ (i : Inst) (name : Sym) (scope : ℕ) (u : Term) (fresh : find_meta i.m
 pub record IsFilled (i new : Inst) (ns : List Need) (gs : List Given) : Type 0 where
   pub grown : IsGrown i new
   pub meets : (v : Instance) → Agrees v new → AllMeetBy i.ctxs v ns gs
-  pub found : (n : Need) → In n ns → (y : MetaVal) × (find_meta new.metas n.name ≡ Some y)
   pub others : (name : Sym) → find_meta i.metas name ≡ None → is_needed ns name ≡ false → find_meta new.metas name ≡ None
 
 -- the instance with the value of one need
@@ -138,11 +137,6 @@ grown-both i middle new g h = record {
   metas = λ name x e. h.metas name x (g.metas name x e);
 }
 
-found_first : (n m : Need) (ns : List Need) (new : Inst) (y : MetaVal) → find_meta new.metas n.name ≡ Some y → ((k : Need) → In k ns → (z : MetaVal) × (find_meta new.metas k.name ≡ Some z)) →
-    In m (n ∷ ns) → (z : MetaVal) × (find_meta new.metas m.name ≡ Some z)
-found_first n m ns new y here rest (inl same) = (y, ap (λ (k : Need). find_meta new.metas k.name) (sym same) ∙ here)
-found_first n m ns new y here rest (inr j) = rest m j
-
 filled-one : (i new : Inst) (n : Need) (g : Given) (ns : List Need) (gs : List Given) (u : Term) → IsUsable i.ctxs n → IsTrue (in_scope_of g.body (200 + n.arity)) → find_meta i.metas n.name ≡ None →
     unrenamed (given_levels i.ctxs n.ctxs n.arity) (200 + n.arity) g.body ≡ Some u → IsFilled (value_for i n u) new ns gs → IsFilled i new (n ∷ ns) (g ∷ gs)
 filled-one i new n g ns gs u usable scoped fresh e r =
@@ -150,7 +144,6 @@ filled-one i new n g ns gs u usable scoped fresh e r =
     record {
       grown = grown-both i (value_for i n u) new (grown-one i n.name (length (given_levels i.ctxs n.ctxs n.arity)) u fresh) r.grown;
       meets = λ v a. (found-met i.ctxs n g usable scoped v u e (a.metas n.name (entry_for i n u) there), r.meets v a);
-      found = λ m j. found_first n m ns new (entry_for i n u) there r.found j;
       others = λ name none k.
           let here : nat_eq n.name.0 name.0 ≡ false = grind (arith, common_steps, k) in
           let rest : is_needed ns name ≡ false = grind (arith, common_steps, k) in
@@ -161,7 +154,7 @@ pub filled : (ns : List Need) (gs : List Given) (i new : Inst) → length ns ≡
 filled [] [] i new many usable fresh e =
     let same : i ≡ new = ap (value_or i) e in
     subst (λ j. IsFilled i j [] []) same
-    (record { grown = record { ambient = refl; ctxs = refl; params = refl; metas = λ name x k. k }; meets = λ v a. tt; found = λ n j. absurd j; others = λ name k m. k })
+    (record { grown = record { ambient = refl; ctxs = refl; params = refl; metas = λ name x k. k }; meets = λ v a. tt; others = λ name k m. k })
 filled [] (g ∷ gs) i new many usable fresh e = absurd (omega arith)
 filled (n ∷ ns) [] i new many usable fresh e = absurd usable
 filled (n ∷ ns) (g ∷ gs) i new many usable fresh e =

@@ -8,7 +8,7 @@ use Rattle.mp_term.specs.declared.sequent.Sequent.{Sequent}
 use Rattle.mp_term.specs.Limits.{within_limits_of}
 use Rattle.mp_term.proofs.SubLaws.{drop-at}
 use Rattle.mp_schema.specs.declared.schema.Schema.{Schema}
-use Rattle.mp_refiner.specs.Steps.{if_each}
+use Rattle.mp_rewrite.specs.Steps.{if_each}
 
 all-append : (xs ys : List Sequent) → list_all within_limits_of (xs ++ ys) ≡ (list_all within_limits_of xs && list_all within_limits_of ys)
 all-append [] ys = refl

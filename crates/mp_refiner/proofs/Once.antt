@@ -1,11 +1,14 @@
 -- A rule gives a goal at most one list of subgoals for the same arguments.
 use Rattle.std.proofs.Common.{◌≡◌, ◌≤◌, ◌<◌, inl, inr, ℕ, ◌+◌, List, [], ◌∷◌, ◌++◌, map, length, true, nat_eq, Option, Some, refl, sym, ap, ◌∙◌, subst, arith}
-use Rattle.std.specs.Prelude.{◌&&◌, All, IsTrue, IsSome, is_some}
-use Rattle.std.specs.List.{IsDistinct}
+use Rattle.std.specs.Prelude.{All, IsTrue, IsSome, Ok, Err, false}
+use Rattle.std.specs.List.{IsDistinct, list_all}
 use Rattle.std.proofs.lemmas.List.Elements.{All-weaker}
-use Rattle.mp_logic.specs.declared.sym.Sym.{Sym}
+use Rattle.mp_logic.specs.declared.logic.Why.{Why}
+use Rattle.mp_logic.specs.declared.logic.Why.TheVariants.{NoMatch, BadArgument, BadAddress, UnderBinder, TooLarge}
+use Rattle.mp_logic.specs.Steps.{Outcome}
 use Rattle.mp_term.specs.declared.term.Term.{Var}
 use Rattle.mp_term.specs.declared.sequent.Sequent.{Sequent}
+use Rattle.mp_term.specs.Limits.{within_limits_of}
 use Rattle.mp_term.specs.Terms.{in_scope_of}
 use Rattle.mp_term.specs.Subst.{sub_of, upto}
 use Rattle.mp_schema.specs.declared.schema.Schema.{Schema}
@@ -13,24 +16,22 @@ use Rattle.mp_schema.specs.Conditions.{nothing_before, past_all, is_known, has_t
 use Rattle.mp_schema.specs.Occurrences.{In, occurrences_in_schema, holes_in_schema}
 use Rattle.mp_schema.specs.Sequents.{Instance, first_spot, ground_at, wide_of, behind_all, seq}
 use Rattle.mp_schema.specs.Solutions.{AgreeOn, GivesGoal}
-use Rattle.mp_schema.proofs.Agreeing.{and_both, SameAt}
+use Rattle.mp_schema.proofs.Agreeing.{SameAt}
 use Rattle.mp_schema.proofs.OneGoal.{one_instance, ground_same, ground_distinct, ground_below}
 use Rattle.mp_schema.proofs.OnePattern.{renaming-injective}
 use Rattle.mp_match.proofs.GivenLaws.{given-distinct, given-below}
-use Rattle.mp_theory.specs.Allowed.{are_for, is_allowed_at}
-use Rattle.mp_logic.specs.Lists.{same_bool}
 use Rattle.mp_theory.specs.declared.rule.Need.{Need}
 use Rattle.mp_theory.specs.declared.rule.Rule.{Rule}
 use Rattle.mp_theory.specs.declared.just.Given.{Given}
 use Rattle.mp_theory.specs.Needs.{needs_of}
-use Rattle.mp_theory.specs.Tables.{IsRule, is_faultless}
+use Rattle.mp_theory.specs.Tables.{IsRule}
+use Rattle.mp_refiner.specs.Law.{Misgiven, LargeStep, IsRuleStep}
 use Rattle.mp_refiner.specs.RuleStep.{given_variables, Meets, MeetsAll, RuleStep}
 use Rattle.mp_theory.proofs.Transfer.{kind_of_need}
 use Rattle.mp_theory.proofs.Sound.{IsSound, sound}
 use Rattle.mp_theory.proofs.ForNeeds.{need_known}
 use Rattle.mp_refiner.proofs.Meeting.{given-width}
 use Rattle.mp_theory.proofs.SamePremises.{same_premises}
-use Rattle.mp_refiner.proofs.Matched.{sized_where_two}
 
 module _ (rule : Rule) (first : Option ℕ) (given : List Given) (goal : Sequent) (whole : IsRule rule) (many : length goal.hyps ≤ 200) (said : IsTrue (has_two_contexts rule.concl) → IsSome first)
     (v w : Instance) (gives_v : GivesGoal rule.concl first goal v) (gives_w : GivesGoal rule.concl first goal w) where
@@ -92,14 +93,59 @@ module _ (rule : Rule) (first : Option ℕ) (given : List Given) (goal : Sequent
     pub same_kids : map (seq v) rule.premises ≡ map (seq w) rule.premises
     same_kids = same_premises rule.premises rule.concl is_sound v w (gives_v.ambient ∙ sym gives_w.ambient) alike.values alike.params needed
 
--- the first size is said where there are two contexts
-said_of : (rule : Rule) (first : Option ℕ) (given : List Given) → IsTrue (is_allowed_at (Some rule) first given) → IsTrue (has_two_contexts rule.concl) → IsSome first
-said_of rule first given allowed =
-    let a = and_both (is_faultless rule && same_bool (is_some first) (has_two_contexts rule.concl)) (are_for (needs_of rule.premises rule.concl) given) allowed in
-    let b = and_both (is_faultless rule) (same_bool (is_some first) (has_two_contexts rule.concl)) a.0 in
-    (sized_where_two first (has_two_contexts rule.concl) b.1).1
+module _ (rule : Rule) (first : Option ℕ) (given : List Given) (goal : Sequent) (whole : IsRule rule) (said : IsTrue (has_two_contexts rule.concl) → IsSome first) (many : length goal.hyps ≤ 200) where
+  pub one_list : (kids others : List Sequent) → RuleStep rule first given goal kids → RuleStep rule first given goal others → kids ≡ others
+  one_list kids others s t = s.kids_are ∙ same_kids rule first given goal whole many said s.instance t.instance s.match t.match s.meets t.meets ∙ sym t.kids_are
 
-pub one_list : (rule : Rule) (first : Option ℕ) (given : List Given) (goal : Sequent) (kids others : List Sequent) → IsRule rule → length goal.hyps ≤ 200 → RuleStep rule first given goal kids →
-    RuleStep rule first given goal others → kids ≡ others
-one_list rule first given goal kids others whole many s t =
-    s.kids_are ∙ same_kids rule first given goal whole many (said_of rule first given s.allowed) s.instance t.instance s.match t.match s.meets t.meets ∙ sym t.kids_are
+  -- ## Outcomes
+
+  abbrev refused : Why → Outcome Sequent
+  refused w = Err w
+
+  abbrev Is : Outcome Sequent → Type 0
+  Is o = IsRuleStep rule first given goal o
+
+  by_kids : (kids : List Sequent) → RuleStep rule first given goal kids → list_all within_limits_of kids ≡ true → (o : Outcome Sequent) → Is o → Ok kids ≡ o
+  by_kids kids s small (Ok others) h = ap (λ ks. Ok ks) (one_list kids others s h.0)
+  by_kids kids s small (Err NoMatch) h = absurd (h s.instance s.match)
+  by_kids kids s small (Err BadArgument) h = absurd (h.none s.instance s.match s.meets)
+  by_kids kids s small (Err BadAddress) h = absurd h
+  by_kids kids s small (Err UnderBinder) h = absurd h
+  by_kids kids s small (Err TooLarge) h =
+      let same = one_list h.kids kids h.step s in
+      let large = h.large in
+      let f : list_all within_limits_of kids ≡ false = rw same at large in absurd cc
+
+  by_none : ((v : Instance) → GivesGoal rule.concl first goal v → ⊥) → (w : Why) → Is (refused w) → refused NoMatch ≡ refused w
+  by_none none NoMatch h = refl
+  by_none none BadArgument h = absurd (none h.instance h.match)
+  by_none none BadAddress h = absurd h
+  by_none none UnderBinder h = absurd h
+  by_none none TooLarge h = absurd (none h.step.instance h.step.match)
+
+  by_bad : Misgiven rule first given goal → (w : Why) → Is (refused w) → refused BadArgument ≡ refused w
+  by_bad m NoMatch h = absurd (h m.instance m.match)
+  by_bad m BadArgument h = refl
+  by_bad m BadAddress h = absurd h
+  by_bad m UnderBinder h = absurd h
+  by_bad m TooLarge h = absurd (m.none h.step.instance h.step.match h.step.meets)
+
+  by_large : LargeStep rule first given goal → (w : Why) → Is (refused w) → refused TooLarge ≡ refused w
+  by_large l NoMatch h = absurd (h l.step.instance l.step.match)
+  by_large l BadArgument h = absurd (h.none l.step.instance l.step.match l.step.meets)
+  by_large l BadAddress h = absurd h
+  by_large l UnderBinder h = absurd h
+  by_large l TooLarge h = refl
+
+  by_refusal : (w v : Why) → Is (refused w) → Is (refused v) → refused w ≡ refused v
+  by_refusal NoMatch v s h = by_none s v h
+  by_refusal BadArgument v s h = by_bad s v h
+  by_refusal BadAddress v s h = absurd s
+  by_refusal UnderBinder v s h = absurd s
+  by_refusal TooLarge v s h = by_large s v h
+
+  -- instances say one outcome of a step
+  pub one_outcome : (o q : Outcome Sequent) → Is o → Is q → o ≡ q
+  one_outcome (Ok kids) q s h = by_kids kids s.0 s.1 q h
+  one_outcome (Err w) (Ok kids) s h = sym (by_kids kids h.0 h.1 (refused w) s)
+  one_outcome (Err w) (Err v) s h = by_refusal w v s h

@@ -1,5 +1,5 @@
 -- What a rule says of a goal, in terms of instances.
-use Rattle.std.specs.Prelude.{◌≡◌, ℕ, ◌+◌, List, [], ◌∷◌, ◌++◌, map, IsTrue, Option, Some, ⊤}
+use Rattle.std.specs.Prelude.{◌≡◌, ℕ, ◌+◌, List, [], ◌∷◌, ◌++◌, map, IsTrue, Option, ⊤}
 use Rattle.std.specs.List.{list_all}
 use Rattle.mp_term.specs.declared.term.Term.{Var}
 use Rattle.mp_term.specs.declared.sequent.Sequent.{Sequent}
@@ -11,7 +11,6 @@ use Rattle.mp_schema.specs.Solutions.{GivesGoal}
 use Rattle.mp_theory.specs.declared.rule.Need.{Need}
 use Rattle.mp_theory.specs.declared.rule.Rule.{Rule}
 use Rattle.mp_theory.specs.declared.just.Given.{Given}
-use Rattle.mp_theory.specs.Allowed.{is_allowed_at}
 
 -- the variables that a given term may use: those of the need's contexts in the goal, and then the need's arguments
 abbrev pub given_variables : Instance → Schema → Need → List ℕ
@@ -29,11 +28,10 @@ MeetsAll v concl [] (g ∷ gs) = ⊥
 MeetsAll v concl (n ∷ ns) [] = ⊥
 MeetsAll v concl (n ∷ ns) (g ∷ gs) = Meets v concl n g × MeetsAll v concl ns gs
 
--- the rule may be asked so, and by some instance its conclusion is the goal, the needs are as given, and the premises, in
--- order, are the kids; if there are two contexts, the first one has as many hypotheses as the step says
+-- by some instance the rule's conclusion is the goal, the needs are as given, and the premises, in order, are the kids; if
+-- there are two contexts, the first one has as many hypotheses as the step says
 pub record RuleStep (rule : Rule) (first : Option ℕ) (given : List Given) (goal : Sequent) (kids : List Sequent) : Type 0 where
   pub instance : Instance
-  pub allowed : IsTrue (is_allowed_at (Some rule) first given)
   pub match : GivesGoal rule.concl first goal instance
   pub meets : MeetsAll instance rule.concl rule.needs given
   pub fits : IsTrue (list_all (schema_fits instance) rule.premises)

@@ -5,6 +5,7 @@ ghost use Rattle.mp_refiner.specs.Steps.{meaning_of};
 use crate::step::rule_step;
 use crate::value::copy_justification;
 use mp_logic::{List, Logic, NoMemory, StepErr, Why};
+use mp_rewrite::apply;
 use mp_term::{Sequent, copy_sequent, same_sequent};
 use mp_theory::{Just, Theory};
 use std::alloc::Global;
@@ -48,6 +49,14 @@ impl<'a> Logic for Refiner<'a> {
         match just {
             Just::Rule { rule, first, given } => match self.theory.rule(*rule) {
                 Some(rule) => rule_step(alloc, rule, *first, given, goal),
+                None => Err(StepErr::Refused(Why::NoMatch)),
+            },
+            Just::Rewrite {
+                rewrite,
+                place,
+                address,
+            } => match self.theory.rewrite(*rewrite) {
+                Some(rewrite) => apply(alloc, rewrite, place, address, goal),
                 None => Err(StepErr::Refused(Why::NoMatch)),
             },
         }

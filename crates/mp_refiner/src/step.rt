@@ -6,7 +6,8 @@ ghost use Rattle.mp_schema.specs.Values.{instance_of};
 ghost use Rattle.mp_theory.specs.Tables.{IsRule};
 ghost use Rattle.mp_refiner.specs.Ready.{IsUsable, AreNew, IsReady};
 ghost use Rattle.mp_theory.specs.Allowed.{is_good, is_allowed_at, are_for};
-ghost use Rattle.mp_refiner.specs.Steps.{given_all, if_each, outcome_of};
+ghost use Rattle.mp_refiner.specs.Steps.{given_all, outcome_of};
+ghost use Rattle.mp_rewrite.specs.Steps.{if_each};
 
 use mp_build::{BuildErr, build_sequent};
 use mp_logic::{List, NoMemory, StepErr, Why};

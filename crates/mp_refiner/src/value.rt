@@ -15,6 +15,15 @@ pub(crate) fn copy_justification(alloc: Global, just: &Just) -> Result<Just, NoM
             first: *first,
             given: copy_given(alloc, given)?,
         }),
+        Just::Rewrite {
+            rewrite,
+            place,
+            address,
+        } => Ok(Just::Rewrite {
+            rewrite: *rewrite,
+            place: *place,
+            address: address.copy(alloc)?,
+        }),
     }
 }
 

@@ -6,6 +6,7 @@ pub mod OneAnswer
 pub mod Plans
 pub mod Proving
 pub mod PutPieces
+pub mod Said
 pub mod SessionLaws
 pub mod SomeAnswer
 pub mod TextsRead

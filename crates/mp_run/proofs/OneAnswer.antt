@@ -6,7 +6,8 @@ use Rattle.mp_ports.specs.Calls.{Read}
 use Rattle.mp_ports.specs.declared.ports.ReadErr.{ReadErr}
 use Rattle.mp_ports.specs.declared.ports.ReadErr.TheVariants as err
 use Rattle.mp_term.specs.declared.sequent.Sequent.{Sequent}
-use Rattle.mp_theory.specs.Tables.{Laws, no_laws}
+use Rattle.mp_theory.specs.Tables.{Laws, IsTheory, no_laws}
+use Rattle.mp_refiner.specs.Law.{StepLaw, IsStepFunction}
 use Rattle.mp_strategy.specs.declared.work.Work.{Work}
 use Rattle.mp_strategy.specs.declared.outcome.Outcome.{Outcome}
 use Rattle.mp_words.specs.declared.word.Word.{Word}
@@ -16,11 +17,13 @@ use Rattle.mp_words.specs.Grammars.{Parse}
 use Rattle.mp_words.specs.Texts.{Context, OneText, ReadsText}
 use Rattle.mp_theorytext.specs.Reading.{ReadsTheory, OneTheoryText}
 use Rattle.mp_scripttext.specs.declared.script.Entry.{Entry}
+use Rattle.mp_scripttext.specs.Entries.{IsGoodEntry, EachGood}
 use Rattle.mp_scripttext.specs.declared.script.Script.{Script as Goals}
 use Rattle.mp_scripttext.specs.Reading.{ReadsScript, OneScriptText}
 use Rattle.mp_drill.specs.declared.schedule.Event.{Event}
 use Rattle.mp_drill.specs.declared.schedule.Reply.{Reply}
-use Rattle.mp_drill.specs.Laws.{OneTrace}
+use Rattle.mp_drill.specs.Laws.{OneTrace, SameTraces}
+use Rattle.mp_drill.specs.Trace.{IsTrace}
 use Rattle.mp_drill.specs.ScheduleReading.{ReadsSchedule, OneScheduleText}
 use Rattle.mp_report.specs.Refusals.{refusal_text}
 use Rattle.mp_report.specs.Traces.{trace_text}
@@ -34,11 +37,13 @@ use Rattle.mp_run.specs.declared.stop.Stop.{Stop}
 use Rattle.mp_run.specs.declared.stop.Stop.TheVariants as stop
 use Rattle.mp_run.specs.Answers.{IsFrom, AllFrom, IsTold, TaskIsTold, AreTold, Whole, Answers}
 use Rattle.mp_run.specs.Commands.{From, Named, Made, Task, Seq, Drill, Command}
-use Rattle.mp_run.specs.Goals.{goal_work, goal_outcome, evaluate_in, IsBlock, IsDrilled}
+use Rattle.mp_run.specs.Goals.{Steps, goal_work, evaluate_by, IsBlock}
 use Rattle.mp_run.specs.Lines.{limit_of}
 use Rattle.mp_run.specs.Loads.{Plan, Evaluated, Drilled, Said, plan_part, loads}
 use Rattle.mp_run.specs.Parts.{Names, Reading, Part, gives, and_then, Answered, taken_from, SaysSo, says, read_as}
 use Rattle.mp_run.specs.Sessions.{Others, Pieces, IsPiece, Says, status_of}
+use Rattle.mp_run.proofs.Proving.{by_steps}
+use Rattle.mp_run.proofs.Said.{TheoriesLaw, GoalsLaw, are_good}
 
 -- ## Parts
 
@@ -172,15 +177,17 @@ others_one Closed Are ps qs one h k = one h k
 others_one Open Are ps qs one h k = one h k
 others_one (Ends s) Are ps qs one h k = h ∙ sym k
 
-pieces_one : {X : Type 0} (Is : X → Piece → Type 0) → ((x : X) (p q : Piece) → Is x p → Is x q → p ≡ q) → (xs : List X) (ps qs : List Piece) → Pieces Is xs ps → Pieces Is xs qs → ps ≡ qs
-pieces_one Is one [] [] [] h k = refl
-pieces_one Is one [] [] (q ∷ qs) h k = absurd k
-pieces_one Is one [] (p ∷ ps) qs h k = absurd h
-pieces_one Is one (x ∷ xs) [] qs h k = absurd h
-pieces_one Is one (x ∷ xs) (p ∷ ps) [] h k = absurd k
-pieces_one Is one (x ∷ xs) (p ∷ ps) (q ∷ qs) h k =
-    let first : p ≡ q = one x p q h.0 k.0 in
-    let rest : ps ≡ qs = others_one p.verdict (Pieces Is xs) ps qs (λ a b. pieces_one Is one xs ps qs a b) h.1 (subst (λ (r : Piece). Others r.verdict (Pieces Is xs) qs) (sym first) k.1) in
+pieces_one : (theory : Laws) (Is : Entry → Piece → Type 0) → ((e : Entry) (p q : Piece) → IsGoodEntry theory e → Is e p → Is e q → p ≡ q) → (es : List Entry) (ps qs : List Piece) → EachGood theory es
+    → Pieces Is es ps → Pieces Is es qs → ps ≡ qs
+pieces_one theory Is one [] [] [] good h k = refl
+pieces_one theory Is one [] [] (q ∷ qs) good h k = absurd k
+pieces_one theory Is one [] (p ∷ ps) qs good h k = absurd h
+pieces_one theory Is one (e ∷ es) [] qs good h k = absurd h
+pieces_one theory Is one (e ∷ es) (p ∷ ps) [] good h k = absurd k
+pieces_one theory Is one (e ∷ es) (p ∷ ps) (q ∷ qs) good h k =
+    let first : p ≡ q = one e p q good.0 h.0 k.0 in
+    let rest : ps ≡ qs =
+    others_one p.verdict (Pieces Is es) ps qs (λ a b. pieces_one theory Is one es ps qs good.1 a b) h.1 (subst (λ (r : Piece). Others r.verdict (Pieces Is es) qs) (sym first) k.1) in
     λ i. first i ∷ rest i
 
 same_piece : (p q : Piece) → p.text ≡ q.text → p.verdict ≡ q.verdict → p ≡ q
@@ -189,29 +196,51 @@ same_piece p q e f = λ i. record { text = e i; verdict = f i }
 block_one : (names : Names) (theory : Laws) (entry : Entry) (before : List ℕ) (o : Outcome Sequent) (p q : Piece) → IsBlock names theory entry before o p → IsBlock names theory entry before o q → p ≡ q
 block_one names theory entry before o p q h k = same_piece p q (h.text ∙ sym k.text) (h.verdict ∙ sym k.verdict)
 
-module _ (one : (eval : Work Sequent → Outcome Sequent) → OneTrace eval) where
-  drilled_one : (names : Names) (theory : Laws) (events : List Event) (entry : Entry) (p q : Piece) → IsDrilled names theory events entry p → IsDrilled names theory events entry q → p ≡ q
-  drilled_one names theory events entry p q h k =
-      let same = one (evaluate_in theory entry) (goal_work entry) events h.0 k.0 h.1 k.1 h.2 k.2 in
-      let there : IsBlock names theory entry (trace_text names entry.name events h.0) h.1 q =
-      subst (λ (rs : List Reply). IsBlock names theory entry (trace_text names entry.name events rs) h.1 q) (sym same.0)
-      (subst (λ (o : Outcome Sequent). IsBlock names theory entry (trace_text names entry.name events k.0) o q) (sym same.1) k.3) in
-      block_one names theory entry (trace_text names entry.name events h.0) h.1 p q h.3 there
+-- evaluators that give a trace's work the same outcome have that trace in common
+abbrev pub TracesLaw : Type 0
+TracesLaw = (eval other : Work Sequent → Outcome Sequent) → SameTraces eval other
 
-  piece_one : (plan : Plan) (names : Names) (theory : Laws) (entry : Entry) (p q : Piece) → IsPiece plan names theory entry p → IsPiece plan names theory entry q → p ≡ q
-  piece_one Evaluated names theory entry p q h k = block_one names theory entry [] (goal_outcome theory entry) p q h k
-  piece_one (Drilled events) names theory entry p q h k = drilled_one names theory (events entry.name) entry p q h k
+module _ (law : StepLaw) (same : TracesLaw) (one : (eval : Work Sequent → Outcome Sequent) → OneTrace eval) where
+  module _ (names : Names) (theory : Laws) (is_theory : IsTheory theory) (entry : Entry) (good : IsGoodEntry theory entry) (steps others : Steps) (are : IsStepFunction theory steps)
+      (also : IsStepFunction theory others) where
+    -- two step functions of the theory give the goal one outcome
+    agree : evaluate_by others theory entry (goal_work entry) ≡ evaluate_by steps theory entry (goal_work entry)
+    agree = sym (by_steps law theory is_theory entry good others also (goal_work entry) good.good) ∙ by_steps law theory is_theory entry good steps are (goal_work entry) good.good
 
-  says_one : (said : Said) (ps qs : List Piece) → Says said ps → Says said qs → ps ≡ qs
-  says_one said ps qs h k = pieces_one (IsPiece said.plan said.names said.theory) (λ e p q a b. piece_one said.plan said.names said.theory e p q a b) said.goals ps qs h k
+    evaluated_one : (p q : Piece) → IsBlock names theory entry [] (evaluate_by steps theory entry (goal_work entry)) p → IsBlock names theory entry [] (evaluate_by others theory entry (goal_work entry)) q → p ≡ q
+    evaluated_one p q h k = block_one names theory entry [] (evaluate_by steps theory entry (goal_work entry)) p q h (subst (λ (o : Outcome Sequent). IsBlock names theory entry [] o q) agree k)
 
-  whole_one : (out : Result Said Stop) (s t : Status) (text bytes : List ℕ) → Whole out s text → Whole out t bytes → (s ≡ t) × (text ≡ bytes)
-  whole_one (Ok said) s t text bytes h k =
-      let same = says_one said h.0 k.0 h.1 k.1 in
+    drilled_one : (events : List Event) (replies rs : List Reply) (o u : Outcome Sequent) (p q : Piece) → IsTrace (evaluate_by steps theory entry) (goal_work entry) events replies o
+        → IsTrace (evaluate_by others theory entry) (goal_work entry) events rs u → IsBlock names theory entry (trace_text names entry.name events replies) o p
+        → IsBlock names theory entry (trace_text names entry.name events rs) u q → p ≡ q
+    drilled_one events replies rs o u p q h k a b =
+        let e = one (evaluate_by steps theory entry) (goal_work entry) events replies rs o u h (same (evaluate_by others theory entry) (evaluate_by steps theory entry) (goal_work entry) events rs u agree k) in
+        let there : IsBlock names theory entry (trace_text names entry.name events replies) o q =
+        subst (λ (rs : List Reply). IsBlock names theory entry (trace_text names entry.name events rs) o q) (sym e.0)
+        (subst (λ (o : Outcome Sequent). IsBlock names theory entry (trace_text names entry.name events rs) o q) (sym e.1) b) in
+        block_one names theory entry (trace_text names entry.name events replies) o p q a there
+
+  piece_one : (plan : Plan) (names : Names) (theory : Laws) → IsTheory theory → (entry : Entry) (p q : Piece) → IsGoodEntry theory entry → IsPiece plan names theory entry p → IsPiece plan names theory entry q → p ≡ q
+  piece_one Evaluated names theory is entry p q good h k = evaluated_one names theory is entry good h.0 k.0 h.1 k.1 p q h.2 k.2
+  piece_one (Drilled events) names theory is entry p q good h k =
+      drilled_one names theory is entry good h.0 k.0 h.1 k.1 (events entry.name) h.2 k.2 h.3 k.3 p q h.4 k.4 h.5 k.5
+
+  says_one : (said : Said) (ps qs : List Piece) → IsTheory said.theory × EachGood said.theory said.goals → Says said ps → Says said qs → ps ≡ qs
+  says_one said ps qs good h k =
+      pieces_one said.theory (IsPiece said.plan said.names said.theory) (λ e p q g a b. piece_one said.plan said.names said.theory good.0 e p q g a b) said.goals ps qs good.1 h k
+
+  -- the theory was read as one, and its goals can be evaluated, if there are any
+  abbrev IsReady : Result Said Stop → Type 0
+  IsReady (Ok said) = IsTheory said.theory × EachGood said.theory said.goals
+  IsReady (Err end) = ⊤
+
+  whole_one : (out : Result Said Stop) (s t : Status) (text bytes : List ℕ) → IsReady out → Whole out s text → Whole out t bytes → (s ≡ t) × (text ≡ bytes)
+  whole_one (Ok said) s t text bytes good h k =
+      let same = says_one said h.0 k.0 good h.1 k.1 in
       (h.2 ∙ ap status_of same ∙ sym k.2, h.3 ∙ ap (λ (ps : List Piece). joined (map (λ (p : Piece). p.text) ps)) same ∙ sym k.3)
-  whole_one (Err (stop.Refused line)) s t text bytes h k = (h.0 ∙ sym k.0, h.1 ∙ sym k.1)
-  whole_one (Err (stop.Fault file)) s t text bytes h k = (h.0 ∙ sym k.0, h.1 ∙ sym k.1)
-  whole_one (Err stop.NoMemory) s t text bytes h k = absurd h
+  whole_one (Err (stop.Refused line)) s t text bytes good h k = (h.0 ∙ sym k.0, h.1 ∙ sym k.1)
+  whole_one (Err (stop.Fault file)) s t text bytes good h k = (h.0 ∙ sym k.0, h.1 ∙ sym k.1)
+  whole_one (Err stop.NoMemory) s t text bytes good h k = absurd h
 
   whole_end : (out : Result Said Stop) (s : Status) (text : List ℕ) → Whole out s text → IsEnd out
   whole_end (Ok said) s text h = tt
@@ -219,8 +248,12 @@ module _ (one : (eval : Work Sequent → Outcome Sequent) → OneTrace eval) whe
   whole_end (Err (stop.Fault file)) s text h = tt
   whole_end (Err stop.NoMemory) s text h = h
 
-  pub one_answer : OneTheoryText → OneScriptText → OneScheduleText → (files : List ℕ → Option (List ℕ)) (c : Command) → AreTold files c
+  ready : TheoriesLaw → GoalsLaw → IsTheory no_laws → (c : Command) (calls : List Read) (out : Result Said Stop) → loads c calls out → IsReady out
+  ready of_theories of_goals none c calls (Ok said) h = are_good of_theories of_goals none c calls said h
+  ready of_theories of_goals none c calls (Err end) h = tt
+
+  pub one_answer : OneTheoryText → OneScriptText → OneScheduleText → TheoriesLaw → GoalsLaw → IsTheory no_laws → (files : List ℕ → Option (List ℕ)) (c : Command) → AreTold files c
       → (s t : Status) (text bytes : List ℕ) → Answers files c s text → Answers files c t bytes → (s ≡ t) × (text ≡ bytes)
-  one_answer theory script schedule files c told s t text bytes h k =
+  one_answer theory script schedule of_theories of_goals none files c told s t text bytes h k =
       let same = loads_one files theory script schedule c told h.0 k.0 h.2 k.2 h.1 k.1 h.3 k.3 (whole_end h.2 s text h.4) (whole_end k.2 t bytes k.4) in
-      whole_one h.2 s t text bytes h.4 (subst (λ (out : Result Said Stop). Whole out t bytes) (sym same) k.4)
+      whole_one h.2 s t text bytes (ready of_theories of_goals none c h.0 h.2 h.3) h.4 (subst (λ (out : Result Said Stop). Whole out t bytes) (sym same) k.4)

@@ -1,9 +1,8 @@
--- Trees of evaluation prove their goals by steps of the rules.
-use Rattle.std.proofs.Common.{◌≡◌, ℕ, ◌<◌, ◌≤◌, true, false, List, [], ◌∷◌, map, length, nat_eq, nat_lt, Option, Some, None, Ok, IsTrue, refl, sym, subst, arith}
+-- Trees of evaluation prove their goals by steps of the theory.
+use Rattle.std.proofs.Common.{◌≡◌, ℕ, ◌<◌, ◌≤◌, true, List, [], ◌∷◌, map, length, nat_eq, nat_lt, Ok, IsTrue, refl, sym, subst, arith}
 use Rattle.std.proofs.lemmas.Bool.{and_parts}
 use Rattle.std.proofs.lemmas.Bool.Decides.{nat_tests}
 use Rattle.std.specs.List.{AllByRecursion, list_all}
-use Rattle.std.specs.Prelude.{slice_get}
 use Rattle.mp_logic.specs.declared.tree.Tree.{Tree, Leaf, Step}
 use Rattle.mp_logic.specs.declared.tree.Tree.TheFolds.{every-Tree}
 use Rattle.mp_logic.specs.declared.tree.Tree.TheOpen as layer
@@ -13,13 +12,9 @@ use Rattle.mp_logic.specs.Valid.{IsValid, StepHolds}
 use Rattle.mp_logic.proofs.Every.{every_leaf, every_step}
 use Rattle.mp_logic.proofs.TreeInduction.{tree_ind}
 use Rattle.mp_term.specs.declared.sequent.Sequent.{Sequent}
-use Rattle.mp_term.specs.Limits.{within_limits_of}
-use Rattle.mp_theory.specs.declared.rule.Rule.{Rule}
-use Rattle.mp_theory.specs.declared.just.Given.{Given}
 use Rattle.mp_theory.specs.declared.just.Just.{Just}
-use Rattle.mp_theory.specs.declared.just.Just.TheVariants as by
-use Rattle.mp_theory.specs.Allowed.{is_good, is_allowed, is_allowed_at}
-use Rattle.mp_theory.specs.Tables.{Laws, IsTheory, rule_at}
+use Rattle.mp_theory.specs.Allowed.{is_good, is_allowed}
+use Rattle.mp_theory.specs.Tables.{Laws, IsTheory}
 use Rattle.mp_strategy.specs.declared.outcome.Outcome.{Outcome}
 use Rattle.mp_strategy.specs.declared.outcome.Outcome.TheVariants as outcome
 use Rattle.mp_strategy.specs.Fits.{fits_of}
@@ -29,13 +24,15 @@ use Rattle.mp_strategy.proofs.Goods.{allowed_at}
 use Rattle.mp_strategy.proofs.Inner.{good_kids}
 use Rattle.mp_strategy.proofs.Sound.{sound_in}
 use Rattle.mp_strategy.proofs.Steps.{root-Step, every_here, every_kid}
-use Rattle.mp_refiner.specs.Law.{StepLaw, IsStep, IsStepAt}
-use Rattle.mp_refiner.specs.RuleStep.{RuleStep}
-use Rattle.mp_refiner.specs.Steps.{meaning_of}
+use Rattle.mp_refiner.specs.Law.{StepLaw, IsStepFunction}
+use Rattle.mp_refiner.specs.Steps.{meaning_of, meaning_with}
 use Rattle.mp_refiner.specs.Lawful.{lawful}
 use Rattle.mp_scripttext.specs.declared.script.Entry.{Entry}
 use Rattle.mp_scripttext.specs.Entries.{IsGoodEntry}
-use Rattle.mp_run.specs.Goals.{is_closed_outcome, problem_of, goal_work, goal_outcome}
+use Rattle.mp_strategy.specs.declared.work.Work.{Work}
+use Rattle.mp_strategy.specs.Evaluation.{eval}
+use Rattle.mp_strategy.proofs.Alike.{same_outcomes}
+use Rattle.mp_run.specs.Goals.{Steps, is_closed_outcome, problem_of, goal_work, evaluate_by}
 use Rattle.mp_run.specs.Proofs.{StepIs, Proves, IsDerivable}
 
 module _ (law : StepLaw) (theory : Laws) (is_theory : IsTheory theory) (justs : List Just) (allowed : IsTrue (list_all (is_allowed theory) justs)) where
@@ -45,24 +42,10 @@ module _ (law : StepLaw) (theory : Laws) (is_theory : IsTheory theory) (justs : 
   abbrev Says : Tree Sequent → Type 0
   Says t = every-Tree Sequent (StepIs theory justs) t
 
-  -- an allowed step on a good goal that gives subgoals is a step of its rule, and they are within the limits
-  rule_step : (place : ℕ) (first : Option ℕ) (given : List Given) (rule : Rule) (g : Sequent) (kids : List Sequent) → rule_at theory place ≡ Some rule → IsTrue (is_allowed theory (by.Rule place first given))
-      → IsTrue (is_good g) → (meaning_of theory).step (by.Rule place first given) g ≡ Ok kids → RuleStep rule first given g kids × IsTrue (list_all within_limits_of kids)
-  rule_step place first given rule g kids e ok good makes =
-      let h : IsStep theory (by.Rule place first given) g (Ok kids) = (law theory (by.Rule place first given) g (Ok kids) is_theory ok good).0 makes in
-      subst (λ (r : Option Rule). IsStepAt r first given g (Ok kids)) e h
-
-  module _ (g : Sequent) (just : JustId) (kids : List (Tree Sequent)) (good : IsTrue (is_good g)) where
-    by_rule : (place : ℕ) (first : Option ℕ) (given : List Given) (r : Option Rule) → rule_at theory place ≡ r → slice_get justs just.0 ≡ Some (by.Rule place first given)
-        → IsTrue (is_allowed theory (by.Rule place first given)) → (meaning_of theory).step (by.Rule place first given) g ≡ Ok (map root_of kids) → StepIs theory justs (layer.Step g just kids)
-    by_rule place first given None e is ok makes = let none : false ≡ true = subst (λ (r : Option Rule). is_allowed_at r first given ≡ true) e ok in absurd cc
-    by_rule place first given (Some rule) e is ok makes = let h = rule_step place first given rule g (map root_of kids) e ok good makes in (place, first, given, rule, is, e, h.0, h.1)
-
-    by_just : (j : Just) → slice_get justs just.0 ≡ Some j → IsTrue (is_allowed theory j) → (meaning_of theory).step j g ≡ Ok (map root_of kids) → StepIs theory justs (layer.Step g just kids)
-    by_just (by.Rule place first given) is ok makes = by_rule place first given (rule_at theory place) refl is ok makes
-
-    step_is : StepHolds (meaning_of theory).step justs (layer.Step g just kids) → StepIs theory justs (layer.Step g just kids)
-    step_is (j, is, makes) = by_just j is (allowed_at (is_allowed theory) justs just.0 j allowed is) makes
+  step_is : (g : Sequent) (just : JustId) (kids : List (Tree Sequent)) → IsTrue (is_good g) → StepHolds (meaning_of theory).step justs (layer.Step g just kids) → StepIs theory justs (layer.Step g just kids)
+  step_is g just kids good (j, is, makes) =
+      let may = allowed_at (is_allowed theory) justs just.0 j allowed is in
+      (j, is, may, (law theory j g (Ok (map root_of kids)) is_theory may good).0 makes)
 
   abbrev Turns : Tree Sequent → Type 0
   Turns t = IsTrue (is_good (root_of t)) → Holds t → Says t
@@ -115,6 +98,21 @@ module _ (law : StepLaw) (theory : Laws) (is_theory : IsTheory theory) (entry : 
     low = λ t e. (subst (SoundIn theory entry) e sound).1;
     derivable = closed_is_derivable o sound;
   }
+
+-- what the code's steps evaluate to
+abbrev pub evaluate_in : Laws → Entry → Work Sequent → Outcome Sequent
+evaluate_in theory entry = eval meaning_of (problem_of theory entry)
+
+-- the outcome of a goal, by the code's steps
+abbrev pub goal_outcome : Laws → Entry → Outcome Sequent
+goal_outcome theory entry = evaluate_in theory entry (goal_work entry)
+
+-- all step functions of the theory give a work on a good goal what the code's steps give
+pub by_steps : StepLaw → (theory : Laws) → IsTheory theory → (entry : Entry) → IsGoodEntry theory entry → (steps : Steps) → IsStepFunction theory steps → (w : Work Sequent) → IsTrue (is_good w.goal)
+    → evaluate_in theory entry w ≡ evaluate_by steps theory entry w
+by_steps law theory is_theory entry good steps are w is =
+    same_outcomes meaning_of (problem_of theory entry) (lawful theory) (record { fits = good.fits; allowed = good.allowed }) (meaning_with steps) w
+    (record { step = λ j g ok h. (law theory j g (steps j g) is_theory ok h).1 (are j g ok h); same = λ a b. refl }) is
 
 module _ (theory : Laws) (entry : Entry) (good : IsGoodEntry theory entry) where
   not_empty : (justs : ℕ) → IsTrue (fits_of justs entry.tacs) → 0 < length entry.tacs

@@ -56,8 +56,8 @@ plain_if true v e = inl e
 plain_if false v e = inr e
 
 piece_is_plain : (plan : Plan) (names : Names) (theory : Laws) (entry : Entry) (p : Piece) → IsPiece plan names theory entry p → IsPlain p.verdict
-piece_is_plain Evaluated names theory entry p h = plain_if (is_closed_outcome _) p.verdict h.verdict
-piece_is_plain (Drilled events) names theory entry p h = plain_if (is_closed_outcome h.1) p.verdict h.3.verdict
+piece_is_plain Evaluated names theory entry p h = plain_if (is_closed_outcome _) p.verdict h.2.verdict
+piece_is_plain (Drilled events) names theory entry p h = plain_if (is_closed_outcome h.3) p.verdict h.5.verdict
 
 says_status : (said : Said) (ps : List Piece) → Says said ps → OfGoals (status_of ps)
 says_status said ps h = goals_status (IsPiece said.plan said.names said.theory) (λ e p k. piece_is_plain said.plan said.names said.theory e p k) said.goals ps h status.AllClosed (inl refl)

@@ -3,10 +3,12 @@ use Rattle.std.specs.Prelude.{◌≡◌, ◌≤◌, ℕ, ◌++◌, nat_eq, Bool,
 use Rattle.mp_logic.specs.declared.sym.Sym.{Sym}
 use Rattle.mp_logic.specs.declared.tree.Tree.{Tree}
 use Rattle.mp_logic.specs.Trees.{leaf_count_of}
+use Rattle.mp_logic.specs.Steps.{Outcome as StepOutcome}
 use Rattle.mp_term.specs.declared.sequent.Sequent.{Sequent}
 use Rattle.mp_theory.specs.Tables.{Laws}
 use Rattle.mp_theory.specs.declared.just.Just.{Just}
-use Rattle.mp_refiner.specs.Steps.{meaning_of}
+use Rattle.mp_refiner.specs.Law.{IsStepFunction}
+use Rattle.mp_refiner.specs.Steps.{meaning_with}
 use Rattle.mp_strategy.specs.declared.problem.ProblemState.{ProblemState}
 use Rattle.mp_strategy.specs.declared.work.Work.{Work}
 use Rattle.mp_strategy.specs.declared.outcome.Outcome.{Outcome}
@@ -46,16 +48,16 @@ problem_of theory entry = record { logic = theory; justs = entry.justs; tacs = e
 abbrev pub goal_work : Entry → Work Sequent
 goal_work entry = work_of entry.tacs (record { 0 = 0 }) entry.fuel entry.goal
 
--- what a work of the goal's strategies evaluates to, from left to right
-abbrev pub evaluate_in : Laws → Entry → Work Sequent → Outcome Sequent
-evaluate_in theory entry = eval meaning_of (problem_of theory entry)
+-- what each justification gives each goal: subgoals, or a refusal
+abbrev pub Steps : Type 0
+Steps = Just → Sequent → StepOutcome Sequent
 
--- the outcome of a goal
-abbrev pub goal_outcome : Laws → Entry → Outcome Sequent
-goal_outcome theory entry = evaluate_in theory entry (goal_work entry)
+-- what a work of the goal's strategies evaluates to by these steps, from left to right
+abbrev pub evaluate_by : Steps → Laws → Entry → Work Sequent → Outcome Sequent
+evaluate_by steps theory entry = eval (meaning_with steps) (problem_of theory entry)
 
 -- the piece of a goal with this outcome: a text that goes before, and the text of the outcome; its verdict is the outcome's. A tree
--- proves the goal by steps of the rules, no path of it has more steps than the goal's fuel, and a goal that is closed is derivable.
+-- proves the goal by steps of the theory, no path of it has more steps than the goal's fuel, and a goal that is closed is derivable.
 pub record IsBlock (names : Names) (theory : Laws) (entry : Entry) (before : List ℕ) (o : Outcome Sequent) (p : Piece) : Type 0 where
   pub valid : (t : Tree Sequent) → o ≡ outcome.Tree t → Proves theory entry.justs t entry.goal
   pub low : (t : Tree Sequent) → o ≡ outcome.Tree t → tree_depth_of t ≤ entry.fuel
@@ -63,16 +65,20 @@ pub record IsBlock (names : Names) (theory : Laws) (entry : Entry) (before : Lis
   pub text : p.text ≡ before ++ result_text names theory entry.name entry.justs o
   pub verdict : p.verdict ≡ verdict_of o
 
--- a goal's piece if it is evaluated from left to right
+-- a goal's piece if it is evaluated from left to right, by the steps of the theory
 abbrev pub IsEvaluated : Names → Laws → Entry → Piece → Type 0
-IsEvaluated names theory entry p = IsBlock names theory entry [] (goal_outcome theory entry) p
+IsEvaluated names theory entry p =
+    (steps : Steps) × IsStepFunction theory steps × IsBlock names theory entry [] (evaluate_by steps theory entry (goal_work entry)) p
 
--- a goal's piece if these events are drilled: the replies to them and the outcome are the trace's, and the text of the replies goes before
+-- a goal's piece if these events are drilled: the replies to them and the outcome are those of the trace by the steps of the theory, and
+-- the text of the replies goes before
 abbrev pub IsDrilled : Names → Laws → List Event → Entry → Piece → Type 0
 IsDrilled names theory events entry p =
-    (replies : List Reply)
+    (steps : Steps)
+    × IsStepFunction theory steps
+    × (replies : List Reply)
     × (o : Outcome Sequent)
-    × IsTrace (evaluate_in theory entry) (goal_work entry) events replies o
+    × IsTrace (evaluate_by steps theory entry) (goal_work entry) events replies o
     × IsBlock names theory entry (trace_text names entry.name events replies) o p
 
 -- the events of each goal are in their ranges

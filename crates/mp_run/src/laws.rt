@@ -11,11 +11,13 @@ ghost use Rattle.mp_scripttext.specs.declared.script.Entry.{Entry as Goal};
 ghost use Rattle.mp_run.specs.declared.status.Status.{Status as Ending};
 ghost use Rattle.mp_run.specs.Answers.{AreTold, Answers, Writes, RunCause, Keeps};
 ghost use Rattle.mp_run.specs.Commands.{Command};
-ghost use Rattle.mp_run.specs.Goals.{evaluate_in, goal_outcome, goal_work};
+ghost use Rattle.mp_run.specs.Goals.{Steps, evaluate_by, goal_work};
 ghost use Rattle.mp_run.specs.Sessions.{Session, CommandSession};
 
 use crate::status::Status;
-use mp_drill::{one_schedule_text, one_trace, some_schedule_text, some_trace, traces_evaluate};
+use mp_drill::{
+    one_schedule_text, one_trace, same_traces, some_schedule_text, some_trace, traces_evaluate,
+};
 use mp_ports::{Shelf, Sink};
 use mp_refiner::{Refiner, step_law};
 use mp_scripttext::{
@@ -44,8 +46,8 @@ pub fn runs_answer<H: Shelf, K: Sink>()
         → (t ≡ s) × ((end ≡ Status.Usage) ⊎ (end ≡ Status.WriteFault)) }
 {}
 
-/// Over files whose bytes are told a command has one answer. It rests on the laws that it calls: a text says one thing, and a
-/// schedule has one trace.
+/// Over files whose bytes are told a command has one answer. It rests on the laws that it calls: a text says one thing, steps are
+/// determined by what instances say of them, and a schedule has one trace.
 pub fn one_answer()
     ensures { (files : List ℕ → Option (List ℕ)) (command : Command) → AreTold files command → (s t : Ending) (text bytes : List ℕ) → Answers files command s text → Answers files command t bytes
         → (s ≡ t) × (text ≡ bytes) }
@@ -53,7 +55,12 @@ pub fn one_answer()
     one_theory_text();
     one_script_text();
     one_schedule_text();
+    step_law();
+    same_traces::<Sequent>();
     one_trace::<Sequent>();
+    theory_laws();
+    read_theories_are_theories();
+    read_goals_are_good();
 }
 
 /// Over files whose bytes are told each command has an answer: each text has a value or a fault, and each schedule of a goal has a
@@ -74,8 +81,8 @@ pub fn some_answer()
 /// What the events of a drill claim, lose, reissue or report late changes nothing of the outcome: it is the one that evaluation from
 /// left to right gives, since a goal is one job.
 pub fn drills_evaluate()
-    ensures { (theory : Laws) (goal : Goal) (events : List Event) (replies : List Reply) (outcome : Outcome Sequent) → IsTrace (evaluate_in theory goal) (goal_work goal) events replies outcome
-        → outcome ≡ goal_outcome theory goal }
+    ensures { (theory : Laws) (steps : Steps) (goal : Goal) (events : List Event) (replies : List Reply) (outcome : Outcome Sequent) → IsTrace (evaluate_by steps theory goal) (goal_work goal) events replies outcome
+        → outcome ≡ evaluate_by steps theory goal (goal_work goal) }
 {
     traces_evaluate::<Sequent>();
 }

@@ -16,16 +16,17 @@ use Rattle.mp_schema.specs.declared.pattern.PBound.{PBound}
 use Rattle.mp_schema.specs.declared.schema.Item.{Item}
 use Rattle.mp_schema.specs.declared.schema.Item.TheVariants.{Ctx, Hyp}
 use Rattle.mp_schema.specs.declared.schema.Schema.{Schema}
-use Rattle.mp_schema.specs.Conditions.{Before, nothing_before, past, past_all, each_item, has, has_all, is_apart, is_known, lists_known, lists_known_bound, pattern_placed, all_placed, item_placed, is_placed}
-use Rattle.mp_schema.specs.Instances.{Values, Ground, made_each, param_of, inst_of, inst_bound, all_pass}
-use Rattle.mp_schema.specs.Induction.{each_pattern, OfEachBody, OfEachArg}
+use Rattle.mp_schema.specs.Conditions.{Before, nothing_before, past, past_all, each_item, has, has_all, is_apart, is_known, lists_known, pattern_placed, all_placed, item_placed, is_placed}
+use Rattle.mp_schema.specs.Instances.{Values, Ground, made_each, param_of, inst_of, inst_bound}
+use Rattle.mp_schema.specs.Induction.{each_pattern, of_each_arg, OfEachBody, OfEachArg}
 use Rattle.mp_schema.specs.Occurrences.{Occurrence, occurrences_in, occurrences_in_bound, occurrences_in_item, occurrences_in_schema, variable_level, hole_in_param, holes_in, holes_in_bound, holes_in_item, holes_in_schema, In}
 use Rattle.mp_schema.specs.Sequents.{Instance, Spot, first_spot, ground_at, telescope, behind, hyps_from, behind_all, concl_at, seq}
 use Rattle.mp_logic.specs.Lists.{joined}
 use Rattle.mp_schema.specs.Solutions.{SameValue}
-use Rattle.mp_schema.proofs.Layers.{inst-Var, inst-Op, inst-Meta, inst_bound-is, lists_known-Op, lists_known-Meta, lists_known_bound-is, occurrences_in-Op, occurrences_in-Meta, occurrences_in_bound-is, holes_in-Op, holes_in-Meta, holes_in_bound-is}
-use Rattle.mp_schema.proofs.Lists.{in-left, in-right, in-split}
-use Rattle.mp_schema.proofs.UseKinds.{Kind, kind_of, same_name, context_at, plain}
+use Rattle.mp_schema.proofs.Layers.{inst-Var, inst-Op, inst-Meta, inst_bound-is, occurrences_in-Op, occurrences_in-Meta, occurrences_in_bound-is, holes_in-Op, holes_in-Meta, holes_in_bound-is}
+use Rattle.mp_schema.proofs.Lists.{in-left, in-right, in-split, all-in}
+use Rattle.mp_schema.proofs.Told.{known_use, lists_known-told}
+use Rattle.mp_schema.proofs.UseKinds.{Kind, kind_of, same_name, context_at, plain, plain_each}
 
 pub and_both : (a b : Bool) → (a && b) ≡ true → (a ≡ true) × (b ≡ true)
 and_both true true e = (refl, refl)
@@ -34,15 +35,16 @@ and_both false b e = absurd cc
 
 -- ## Patterns
 
-module _ (g h : Ground) (v w : Values) (known : List Sym) (grounds : (cs : List Sym) → is_known known cs ≡ true → g cs ≡ h cs) where
-  abbrev SameMetas : List Occurrence → Type 0
-  SameMetas os = (o : Occurrence) → In o os → v.meta o.name ≡ w.meta o.name
+module _ (g h : Ground) (v w : Values) where
+  -- the values are the same where these names occur, and so are the variables before their arguments
+  abbrev SameUses : List Occurrence → Type 0
+  SameUses os = (o : Occurrence) → In o os → (v.meta o.name ≡ w.meta o.name) × (g o.ctxs ≡ h o.ctxs)
 
   abbrev SameHoles : List Sym → Type 0
   SameHoles names = (name : Sym) → In name names → v.param name ≡ w.param name
 
   abbrev Same : Pattern → Type 0
-  Same p = SameMetas (occurrences_in p) → SameHoles (holes_in p) → lists_known known p ≡ true → (env : List Term) (m : ℕ) → inst_of g v p env m ≡ inst_of h w p env m
+  Same p = SameUses (occurrences_in p) → SameHoles (holes_in p) → (env : List Term) (m : ℕ) → inst_of g v p env m ≡ inst_of h w p env m
 
   same_params : (ps : List ParamPat) → SameHoles (flat_map hole_in_param ps) → map (param_of v) ps ≡ map (param_of w) ps
   same_params [] holes = refl
@@ -50,76 +52,70 @@ module _ (g h : Ground) (v w : Values) (known : List Sym) (grounds : (cs : List 
   same_params (Hole name ∷ ps) holes =
       let here = holes name (inl refl) in let rest = same_params ps (λ n i. holes n (inr i)) in rw (here, rest) refl
 
-  same_bodies : (subs : List PBound) → OfEachBody Same subs → SameMetas (flat_map occurrences_in_bound subs) → SameHoles (flat_map holes_in_bound subs) →
-      all_pass (map (lists_known_bound known) subs) ≡ true → (env : List Term) (m : ℕ) →
-      made_each (map (inst_bound g v) subs) env m ≡ made_each (map (inst_bound h w) subs) env m
-  same_bodies [] all metas holes k env m = refl
-  same_bodies (b ∷ bs) all metas holes k env m =
-      let known_both = and_both (lists_known_bound known b) (all_pass (map (lists_known_bound known) bs)) k in
+  same_bodies : (subs : List PBound) → OfEachBody Same subs → SameUses (flat_map occurrences_in_bound subs) → SameHoles (flat_map holes_in_bound subs) →
+      (env : List Term) (m : ℕ) → made_each (map (inst_bound g v) subs) env m ≡ made_each (map (inst_bound h w) subs) env m
+  same_bodies [] all uses holes env m = refl
+  same_bodies (b ∷ bs) all uses holes env m =
       let here = all.0
-      (λ o i. metas o (in-left o (occurrences_in_bound b) (flat_map occurrences_in_bound bs) (subst (In o) (sym (occurrences_in_bound-is b)) i)))
+      (λ o i. uses o (in-left o (occurrences_in_bound b) (flat_map occurrences_in_bound bs) (subst (In o) (sym (occurrences_in_bound-is b)) i)))
       (λ n i. holes n (in-left n (holes_in_bound b) (flat_map holes_in_bound bs) (subst (In n) (sym (holes_in_bound-is b)) i)))
-      (sym (lists_known_bound-is known b) ∙ known_both.0) (env ++ variables m b.binders) (m + b.binders) in
+      (env ++ variables m b.binders) (m + b.binders) in
       let first : inst_bound g v b env m ≡ inst_bound h w b env m =
       inst_bound-is g v b env m ∙ ap (λ (t : Term). let x : Bound = record { binders = b.binders; body = t } in x) here ∙ sym (inst_bound-is h w b env m) in
-      let rest = same_bodies bs all.1 (λ o i. metas o (in-right o (occurrences_in_bound b) (flat_map occurrences_in_bound bs) i))
-      (λ n i. holes n (in-right n (holes_in_bound b) (flat_map holes_in_bound bs) i)) known_both.1 env m in
+      let rest = same_bodies bs all.1 (λ o i. uses o (in-right o (occurrences_in_bound b) (flat_map occurrences_in_bound bs) i))
+      (λ n i. holes n (in-right n (holes_in_bound b) (flat_map holes_in_bound bs) i)) env m in
       ap (λ (x : Bound). x ∷ made_each (map (inst_bound g v) bs) env m) first ∙ ap (λ xs. inst_bound h w b env m ∷ xs) rest
 
-  same_args : (args : List Pattern) → OfEachArg Same args → SameMetas (flat_map occurrences_in args) → SameHoles (flat_map holes_in args) →
-      all_pass (map (lists_known known) args) ≡ true → (env : List Term) (m : ℕ) →
-      made_each (map (inst_of g v) args) env m ≡ made_each (map (inst_of h w) args) env m
-  same_args [] all metas holes k env m = refl
-  same_args (a ∷ rest) all metas holes k env m =
-      let known_both = and_both (lists_known known a) (all_pass (map (lists_known known) rest)) k in
-      let here = all.0 (λ o i. metas o (in-left o (occurrences_in a) (flat_map occurrences_in rest) i))
-      (λ n i. holes n (in-left n (holes_in a) (flat_map holes_in rest) i)) known_both.0 env m in
-      let others = same_args rest all.1 (λ o i. metas o (in-right o (occurrences_in a) (flat_map occurrences_in rest) i))
-      (λ n i. holes n (in-right n (holes_in a) (flat_map holes_in rest) i)) known_both.1 env m in
+  same_args : (args : List Pattern) → OfEachArg Same args → SameUses (flat_map occurrences_in args) → SameHoles (flat_map holes_in args) →
+      (env : List Term) (m : ℕ) → made_each (map (inst_of g v) args) env m ≡ made_each (map (inst_of h w) args) env m
+  same_args [] all uses holes env m = refl
+  same_args (a ∷ rest) all uses holes env m =
+      let here = all.0 (λ o i. uses o (in-left o (occurrences_in a) (flat_map occurrences_in rest) i)) (λ n i. holes n (in-left n (holes_in a) (flat_map holes_in rest) i)) env m in
+      let others = same_args rest all.1 (λ o i. uses o (in-right o (occurrences_in a) (flat_map occurrences_in rest) i))
+      (λ n i. holes n (in-right n (holes_in a) (flat_map holes_in rest) i)) env m in
       ap (λ x. x ∷ made_each (map (inst_of g v) rest) env m) here ∙ ap (λ xs. inst_of h w a env m ∷ xs) others
 
   same_var : (l : ℕ) → Same (pat.Var l)
-  same_var l metas holes k env m = inst-Var g v l env m ∙ sym (inst-Var h w l env m)
+  same_var l uses holes env m = inst-Var g v l env m ∙ sym (inst-Var h w l env m)
 
   same_op : (o : Sym) (ps : List ParamPat) (subs : List PBound) → OfEachBody Same subs → Same (pat.Op o ps subs)
-  same_op o ps subs all metas holes k env m =
+  same_op o ps subs all uses holes env m =
       let params = same_params ps (λ n i. holes n (subst (In n) (sym (holes_in-Op o ps subs)) (in-left n (flat_map hole_in_param ps) (flat_map holes_in_bound subs) i))) in
-      let bodies = same_bodies subs all (λ x i. metas x (subst (In x) (sym (occurrences_in-Op o ps subs)) i))
-      (λ n i. holes n (subst (In n) (sym (holes_in-Op o ps subs)) (in-right n (flat_map hole_in_param ps) (flat_map holes_in_bound subs) i)))
-      (sym (lists_known-Op known o ps subs) ∙ k) env m in
+      let bodies = same_bodies subs all (λ x i. uses x (subst (In x) (sym (occurrences_in-Op o ps subs)) i))
+      (λ n i. holes n (subst (In n) (sym (holes_in-Op o ps subs)) (in-right n (flat_map hole_in_param ps) (flat_map holes_in_bound subs) i))) env m in
       inst-Op g v o ps subs env m ∙ ap (λ xs. Op o xs (made_each (map (inst_bound g v) subs) env m)) params
       ∙ ap (λ bs. Op o (map (param_of w) ps) bs) bodies ∙ sym (inst-Op h w o ps subs env m)
 
   same_meta : (n : Sym) (cs : List Sym) (args : List Pattern) → OfEachArg Same args → Same (pat.Meta n cs args)
-  same_meta n cs args all metas holes k env m =
-      let both = and_both (is_known known cs) (all_pass (map (lists_known known) args)) (sym (lists_known-Meta known n cs args) ∙ k) in
-      let here : v.meta n ≡ w.meta n =
+  same_meta n cs args all uses holes env m =
       let o : Occurrence = record { is_context = false; name = n; ctxs = cs; levels = map variable_level args } in
-      metas o (subst (In o) (sym (occurrences_in-Meta n cs args)) (inl refl)) in
-      let others = same_args args all (λ x i. metas x (subst (In x) (sym (occurrences_in-Meta n cs args)) (inr i)))
-      (λ x i. holes x (subst (In x) (sym (holes_in-Meta n cs args)) i)) both.1 env m in
-      let bases = grounds cs both.0 in
+      let here = uses o (subst (In o) (sym (occurrences_in-Meta n cs args)) (inl refl)) in
+      let others = same_args args all (λ x i. uses x (subst (In x) (sym (occurrences_in-Meta n cs args)) (inr i)))
+      (λ x i. holes x (subst (In x) (sym (holes_in-Meta n cs args)) i)) env m in
       inst-Meta g v n cs args env m
-      ∙ ap (λ t. sub_of t (map Var (g cs) ++ made_each (map (inst_of g v) args) env m) m) here
-      ∙ ap (λ ls. sub_of (w.meta n) (map Var ls ++ made_each (map (inst_of g v) args) env m) m) bases
+      ∙ ap (λ t. sub_of t (map Var (g cs) ++ made_each (map (inst_of g v) args) env m) m) here.0
+      ∙ ap (λ ls. sub_of (w.meta n) (map Var ls ++ made_each (map (inst_of g v) args) env m) m) here.1
       ∙ ap (λ ts. sub_of (w.meta n) (map Var (h cs) ++ ts) m) others
       ∙ sym (inst-Meta h w n cs args env m)
 
   pub same_inst : (p : Pattern) → Same p
   same_inst = each_pattern Same same_var same_op same_meta
 
-  pub same_each : (args : List Pattern) (b : Before) → b.contexts ≡ known → SameMetas (flat_map occurrences_in args) → SameHoles (flat_map holes_in args) →
-      all_placed args b ≡ true → (env : List Term) (m : ℕ) → made_each (map (inst_of g v) args) env m ≡ made_each (map (inst_of h w) args) env m
-  same_each [] b is metas holes k env m = refl
-  same_each (a ∷ rest) b is metas holes k env m =
-      let both = and_both (pattern_placed a b) (all_placed rest b) k in
-      let placed = and_both _ (lists_known b.contexts a) both.0 in
-      let lists : lists_known known a ≡ true = ap (λ cs. lists_known cs a) (sym is) ∙ placed.1 in
-      let here = same_inst a (λ o i. metas o (in-left o (occurrences_in a) (flat_map occurrences_in rest) i))
-      (λ n i. holes n (in-left n (holes_in a) (flat_map holes_in rest) i)) lists env m in
-      let others = same_each rest b is (λ o i. metas o (in-right o (occurrences_in a) (flat_map occurrences_in rest) i))
-      (λ n i. holes n (in-right n (holes_in a) (flat_map holes_in rest) i)) both.1 env m in
-      ap (λ x. x ∷ made_each (map (inst_of g v) rest) env m) here ∙ ap (λ xs. inst_of h w a env m ∷ xs) others
+  pub same_each : (args : List Pattern) → SameUses (flat_map occurrences_in args) → SameHoles (flat_map holes_in args) → (env : List Term) (m : ℕ) →
+      made_each (map (inst_of g v) args) env m ≡ made_each (map (inst_of h w) args) env m
+  same_each args = same_args args (of_each_arg Same same_inst args)
+
+-- ## Lists of contexts
+
+-- each occurrence in a well-placed pattern lists known contexts
+pub lists_of_pattern : (p : Pattern) (b : Before) → pattern_placed p b ≡ true → (o : Occurrence) → In o (occurrences_in p) → is_known b.contexts o.ctxs ≡ true
+lists_of_pattern p b k o i = all-in (known_use b.contexts) (occurrences_in p) o (sym (lists_known-told b.contexts p) ∙ (and_both _ (lists_known b.contexts p) k).1) i
+
+pub lists_of_args : (args : List Pattern) (b : Before) → all_placed args b ≡ true → (o : Occurrence) → In o (flat_map occurrences_in args) → is_known b.contexts o.ctxs ≡ true
+lists_of_args [] b k o i = absurd i
+lists_of_args (a ∷ rest) b k o i =
+    let both = and_both (pattern_placed a b) (all_placed rest b) k in
+    elim (in-split o (occurrences_in a) (flat_map occurrences_in rest) i) [ inl j ↦ lists_of_pattern a b both.0 o j | inr j ↦ lists_of_args rest b both.1 o j ]
 
 -- ## Schemata
 
@@ -157,14 +153,11 @@ module _ (v w : Instance) where
     abbrev SameNames : List Sym → Type 0
     SameNames names = (name : Sym) → In name names → SameHole name
 
-    plain_metas : (p : Pattern) → SameOccurrences (occurrences_in p) → (o : Occurrence) → In o (occurrences_in p) → v.values.meta o.name ≡ w.values.meta o.name
-    plain_metas p all o i = subst (λ b. SameValue v w b o.name) (plain p o i) (all o i)
-
     module _ (l : Spot) (b : Before) (kept : Kept b) where
       same_pattern : (p : Pattern) → SameOccurrences (occurrences_in p) → SameNames (holes_in p) → pattern_placed p b ≡ true → concl_at v p l ≡ concl_at w p l
       same_pattern p all holes k =
-          let placed = and_both _ (lists_known b.contexts p) k in
-          same_inst (ground_at v l.pos) (ground_at w l.pos) v.values w.values b.contexts (known_grounds l.pos b.contexts kept) p (plain_metas p all) holes placed.1 (map Var l.env) l.next
+          same_inst (ground_at v l.pos) (ground_at w l.pos) v.values w.values p
+          (λ o i. (subst (λ c. SameValue v w c o.name) (plain p o i) (all o i), known_grounds l.pos b.contexts kept o.ctxs (lists_of_pattern p b k o i))) holes (map Var l.env) l.next
 
       same_telescope : (ctxs : List Sym) (args : List Pattern) → has_all b.contexts ctxs ≡ true →
           ((env : List Term) (m : ℕ) → made_each (map (inst_of (ground_at v l.pos) v.values) args) env m ≡ made_each (map (inst_of (ground_at w l.pos) w.values) args) env m) →
@@ -182,13 +175,6 @@ module _ (v w : Instance) where
       pub hyps : hyps_from v items l ≡ hyps_from w items l
       pub spot : behind_all v items l ≡ behind_all w items l
       pub kept : Kept (past_all items b)
-
-    plain_args : (args : List Pattern) → SameOccurrences (flat_map occurrences_in args) → (o : Occurrence) → In o (flat_map occurrences_in args) → v.values.meta o.name ≡ w.values.meta o.name
-    plain_args [] all o i = absurd i
-    plain_args (a ∷ rest) all o i = elim (in-split o (occurrences_in a) (flat_map occurrences_in rest) i) [
-      | inl j ↦ plain_metas a (λ x k. all x (in-left x (occurrences_in a) (flat_map occurrences_in rest) k)) o j
-      | inr j ↦ plain_args rest (λ x k. all x (in-right x (occurrences_in a) (flat_map occurrences_in rest) k)) o j
-    ]
 
     kept_more : (name : Sym) (ctxs : List Sym) (args : List Pattern) (b : Before) → Kept b → v.kept name ≡ w.kept name → Kept (past (Ctx name ctxs args) b)
     kept_more name ctxs args b kept here c e = by (nat_eq name.0 c.0) refl e
@@ -216,10 +202,11 @@ module _ (v w : Instance) where
         let lists = and_both _ (is_known b.contexts ctxs) placed.0 in
         let known = and_both (has_all b.contexts ctxs) (is_apart ctxs) lists.1 in
         let here : v.kept name ≡ w.kept name = all (context_at name ctxs args) (inl refl) in
-        let args_all : SameOccurrences (flat_map occurrences_in args) =
-        λ o i. all o (in-left o (occurrences_in_item (Ctx name ctxs args)) (flat_map occurrences_in_item is) (inr i)) in
-        let made = same_each (ground_at v l.pos) (ground_at w l.pos) v.values w.values b.contexts (known_grounds l.pos b.contexts kept) args b refl (plain_args args args_all)
-        (λ n i. holes n (in-left n (flat_map holes_in args) (flat_map holes_in_item is) i)) placed.1 in
+        let made = same_each (ground_at v l.pos) (ground_at w l.pos) v.values w.values args
+        (λ o i. (
+          subst (λ t. SameValue v w t o.name) (plain_each args o i) (all o (in-left o (occurrences_in_item (Ctx name ctxs args)) (flat_map occurrences_in_item is) (inr i))),
+          known_grounds l.pos b.contexts kept o.ctxs (lists_of_args args b placed.1 o i),
+        )) (λ n i. holes n (in-left n (flat_map holes_in args) (flat_map holes_in_item is) i)) in
         let tele = same_telescope l b kept ctxs args known.0 made l.next 0 (v.kept name) ∙ ap (telescope w l ctxs args l.next 0) here in
         let pos = λ (other : Sym). (if nat_eq other.0 name.0 then l.next else l.pos other) in
         let spot : behind v (Ctx name ctxs args) l ≡ behind w (Ctx name ctxs args) l =

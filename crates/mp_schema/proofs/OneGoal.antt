@@ -18,14 +18,15 @@ use Rattle.mp_schema.specs.Conditions.{Before, Seen, argument, seen, below, past
 use Rattle.mp_schema.specs.Instances.{inst_of, fits, all_pass}
 use Rattle.mp_schema.specs.Occurrences.{In, Occurrence, occurrences_in, occurrences_in_item, occurrences_in_schema, holes_in, holes_in_item, holes_in_schema}
 use Rattle.mp_schema.specs.Sequents.{Instance, Spot, ground_at, first_spot, wide_of, hyps_of, hyps_from, behind, behind_all, concl_at, item_fits}
-use Rattle.mp_schema.specs.Solutions.{SameValue, AgreeOn, FirstHas, HasFirst, GivesGoal}
+use Rattle.mp_schema.specs.Solutions.{SameValue, AgreeOn, FirstHas, HasFirst, GivesGoal, GivesTerm, ambient_only}
 use Rattle.mp_schema.proofs.Agreeing.{and_both}
-use Rattle.mp_schema.proofs.Apart.{Apart-from, Apart-to, Apart-left, Below-from, Below-to, Below-left}
+use Rattle.mp_schema.proofs.Apart.{Apart-from, Apart-to, Apart-left, Apart-upto, Below-from, Below-to, Below-left, Below-upto}
 use Rattle.mp_schema.proofs.Arguments.{fine-variables, arguments-distinct, arguments-below}
 use Rattle.mp_schema.proofs.UseKinds.{same_name, plain, context_at}
 use Rattle.mp_schema.proofs.Laying.{blocks, IsLaidOut, laid-first, blocks-distinct, blocks-low, laid-named, laid-context}
 use Rattle.mp_schema.proofs.Lists.{in-split}
 use Rattle.mp_term.proofs.EqualTerms.{decided}
+use Rattle.mp_term.proofs.Ranges.{length-upto}
 use Rattle.mp_schema.proofs.OnePattern.{args-made, one_pattern}
 use Rattle.mp_schema.proofs.Rows.{placed_from, telescope-length, telescope_levels, telescope-placed, placed-injective, wide-ground}
 
@@ -389,3 +390,17 @@ module _ (c : Schema) (first : Option ℕ) (goal : Sequent) (v w : Instance) (co
       let next : spot.next ≡ length goal.hyps = omega (arith, made, many) in
       subst (λ n. All (λ x. x < n) (ground_at v spot.pos cs)) next
       (Below-to spot.next (ground_at v spot.pos cs) (Below-left (ground_at v spot.pos cs) spot.env spot.next (Below-from spot.next (ground_at v spot.pos cs ++ spot.env) b)))
+
+-- ## Terms
+
+-- instances that make a pattern without contexts one term agree on its names
+pub one_term : (scope : ℕ) (p : Pattern) (t : Term) (v w : Instance) → (seen p).fine 0 ≡ true → lists_known [] p ≡ true → GivesTerm scope p t v → GivesTerm scope p t w →
+    AgreeOn v w (occurrences_in p) (holes_in p)
+one_term scope p t v w fine lists gives_v gives_w =
+    let none : scope - scope ≡ 0 = omega arith in
+    let all : 0 + scope ≡ scope = omega arith in
+    let one = one_pattern (ambient_only scope) (ambient_only scope) (λ cs. scope) (λ cs. scope) [] v.values w.values [] scope (λ cs h. refl) (λ cs. length-upto 0 scope) (λ cs. length-upto 0 scope)
+    (λ cs h. rw (append-nil (upto 0 scope)) (Apart-to (upto 0 scope) (Apart-upto 0 scope)))
+    (λ cs h. rw (append-nil (upto 0 scope)) (Below-to scope (upto 0 scope) (rw all at (Below-upto 0 scope)))) p scope (omega arith) (rw none fine) lists gives_v.fit gives_w.fit
+    (rw none (gives_v.same ∙ sym gives_w.same)) in
+    record { values = λ o i. subst (λ k. SameValue v w k o.name) (sym (plain p o i)) (one.0 o i); params = one.1 }

@@ -9,13 +9,12 @@ use Rattle.mp_schema.specs.declared.pattern.Pattern.{Pattern}
 use Rattle.mp_schema.specs.declared.schema.Item.{Item}
 use Rattle.mp_schema.specs.declared.schema.Item.TheVariants.{Ctx, Hyp}
 use Rattle.mp_schema.specs.declared.schema.Schema.{Schema}
-use Rattle.mp_schema.specs.Conditions.{Before, nothing_before, past, past_all, each_item, has, has_all, is_apart, is_known, contexts_among, context_names, lists_known, pattern_placed, all_placed, item_placed, is_placed}
+use Rattle.mp_schema.specs.Conditions.{Before, nothing_before, past, past_all, each_item, has, has_all, is_apart, is_known, contexts_among, context_names, pattern_placed, all_placed, item_placed, is_placed}
 use Rattle.mp_schema.specs.Occurrences.{Occurrence, occurrences_in, occurrences_in_item, occurrences_in_schema}
-use Rattle.mp_schema.proofs.Told.{known_use, lists_known-told}
 use Rattle.mp_schema.specs.Occurrences.{In}
-use Rattle.mp_schema.proofs.Lists.{in-split, all-in}
+use Rattle.mp_schema.proofs.Lists.{in-split}
 use Rattle.mp_schema.proofs.UseKinds.{same_name, context_at}
-use Rattle.mp_schema.proofs.Agreeing.{and_both}
+use Rattle.mp_schema.proofs.Agreeing.{and_both, lists_of_pattern, lists_of_args}
 
 -- each name of the first list is in the second
 abbrev pub IsWithin : List Sym → List Sym → Type 0
@@ -35,27 +34,13 @@ is_known_more known names cs h e =
     let apart = both.1 in rw (all, apart) refl
 
 module _ (names : List Sym) where
-  pattern_known : (p : Pattern) (b : Before) (o : Occurrence) → IsWithin b.contexts names → pattern_placed p b ≡ true → In o (occurrences_in p) → is_known names o.ctxs ≡ true
-  pattern_known p b o h e i =
-      let placed = and_both _ (lists_known b.contexts p) e in
-      is_known_more b.contexts names o.ctxs h (all-in (known_use b.contexts) (occurrences_in p) o (sym (lists_known-told b.contexts p) ∙ placed.1) i)
-
-  args_known : (args : List Pattern) (b : Before) (o : Occurrence) → IsWithin b.contexts names → all_placed args b ≡ true → In o (flat_map occurrences_in args) → is_known names o.ctxs ≡ true
-  args_known [] b o h e i = absurd i
-  args_known (a ∷ rest) b o h e i =
-      let both = and_both (pattern_placed a b) (all_placed rest b) e in
-      elim (in-split o (occurrences_in a) (flat_map occurrences_in rest) i) [
-        | inl j ↦ pattern_known a b o h both.0 j
-        | inr j ↦ args_known rest b o h both.1 j
-      ]
-
   context_known : (name : Sym) (ctxs : List Sym) (args : List Pattern) (b : Before) (o : Occurrence) → IsWithin b.contexts names → item_placed (Ctx name ctxs args) b ≡ true →
       In o (context_at name ctxs args ∷ flat_map occurrences_in args) → is_known names o.ctxs ≡ true
   context_known name ctxs args b o h e (inl same) =
       let placed = and_both _ (all_placed args b) e in
       let lists = and_both _ (is_known b.contexts ctxs) placed.0 in
       subst (λ (x : Occurrence). is_known names x.ctxs ≡ true) same (is_known_more b.contexts names ctxs h lists.1)
-  context_known name ctxs args b o h e (inr i) = let placed = and_both _ (all_placed args b) e in args_known args b o h placed.1 i
+  context_known name ctxs args b o h e (inr i) = let placed = and_both _ (all_placed args b) e in is_known_more b.contexts names o.ctxs h (lists_of_args args b placed.1 o i)
 
   more_within : (name : Sym) (ctxs : List Sym) (args : List Pattern) (b : Before) → IsWithin b.contexts names → has names name ≡ true → IsWithin (past (Ctx name ctxs args) b).contexts names
   more_within name ctxs args b h here c e = by (nat_eq name.0 c.0) refl e
@@ -70,7 +55,7 @@ module _ (names : List Sym) where
   items_known (Hyp p ∷ is) b o h k e i =
       let both = and_both (pattern_placed p b) (each_item item_placed is (past (Hyp p) b)) e in
       elim (in-split o (occurrences_in p) (flat_map occurrences_in_item is) i) [
-        | inl j ↦ pattern_known p b o h both.0 j
+        | inl j ↦ is_known_more b.contexts names o.ctxs h (lists_of_pattern p b both.0 o j)
         | inr j ↦ items_known is (past (Hyp p) b) o h k both.1 j
       ]
   items_known (Ctx name ctxs args ∷ is) b o h k e i =
@@ -92,5 +77,7 @@ placed_known s o e i =
     let both = and_both (each_item item_placed s.items nothing_before) (pattern_placed s.concl (past_all s.items nothing_before)) e in
     elim (in-split o (flat_map occurrences_in_item s.items) (occurrences_in s.concl) i) [
       | inl j ↦ items_known (context_names s) s.items nothing_before o (λ c t. absurd cc) (λ c t. t) both.0 j
-      | inr j ↦ pattern_known (context_names s) s.concl (past_all s.items nothing_before) o (λ c t. sym (past_within s.items nothing_before c) ∙ t) both.1 j
+      | inr j ↦
+          is_known_more (past_all s.items nothing_before).contexts (context_names s) o.ctxs (λ c t. sym (past_within s.items nothing_before c) ∙ t)
+          (lists_of_pattern s.concl (past_all s.items nothing_before) both.1 o j)
     ]

@@ -20,6 +20,11 @@ module _ (P : Pattern → Type 0) where
   OfEachArg [] = Unit {0}
   OfEachArg (a ∷ rest) = P a × OfEachArg rest
 
+  -- what holds of each pattern holds of each argument
+  pub of_each_arg : ((p : Pattern) → P p) → (args : List Pattern) → OfEachArg args
+  of_each_arg all [] = tt
+  of_each_arg all (a ∷ rest) = (all a, of_each_arg all rest)
+
   abbrev Known : Type 0
   Known = (t : Pattern) × P t
 

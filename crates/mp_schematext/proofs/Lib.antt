@@ -1,5 +1,8 @@
-pub mod PatternParts
-pub mod PatternSteps
-pub mod PatternUnfolds
-pub mod RawInduction
+pub mod FaultWalks
+pub mod Narrow
 pub mod RuleSteps
+pub mod RuleTells
+pub mod RuleUses
+pub mod SchemaSizes
+pub mod SchemaTells
+pub mod ValueWalks

@@ -1,15 +1,15 @@
 -- How a rule is read by its parts.
-use Rattle.std.proofs.Common.{◌≡◌, ◌<◌, List, [], drop, length, true, arith, ap, sym, ◌∙◌}
+use Rattle.std.proofs.Common.{◌≡◌, ◌<◌, List, drop, length, true, arith, ap, sym, ◌∙◌}
 use Rattle.mp_words.specs.declared.word.Word.{Word}
-use Rattle.mp_words.specs.declared.word.Mark.TheVariants as mark
-use Rattle.mp_words.specs.declared.word.Keyword.TheVariants as keyword
 use Rattle.mp_words.specs.declared.raw.RawName.{RawName}
 use Rattle.mp_words.specs.Fronts.{is_mark, name_behind}
 use Rattle.mp_words.specs.Grammars.{Parse, read, stuck, after, both, fronted, then_read, pair, which}
 use Rattle.mp_schematext.specs.declared.raw.RawSchema.{RawSchema}
 use Rattle.mp_schematext.specs.declared.raw.RawRule.{RawRule}
 use Rattle.mp_schematext.specs.Grammar.{premises, raw_rule, rule, schema}
-use Rattle.mp_schematext.proofs.PatternSteps.{drop_short}
+use Rattle.mp_patterntext.proofs.PatternSteps.{drop_short}
+use Rattle.mp_words.specs.declared.word.Mark.TheVariants as mark
+use Rattle.mp_words.specs.declared.word.Keyword.TheVariants as keyword
 
 module _ (ts us vs : List Word) (n : RawName) (named : name_behind keyword.Rule ts ≡ read n us) (colon : fronted (is_mark mark.Colon) us ≡ true) (rest_is : vs ≡ drop 1 us) where
   abbrev behind : Parse Word (List RawSchema × RawSchema) → Parse Word RawRule

@@ -1,9 +1,16 @@
-//! Patterns, schemata and rules as they are written: their grammar, and the readers over words.
+//! Schemata and rules as they are written: their grammar, their static rules, and their values.
 #![tactic(auto)]
 
-mod pattern;
+mod holes;
+mod laws;
 mod raw;
 mod rule;
+mod size;
+mod statics;
+mod uses;
+mod value;
 
-pub use raw::{RawItem, RawParamPat, RawPattern, RawPatternBound, RawRule, RawSchema};
-pub use rule::parse_theory;
+pub use laws::one_set_of_rules;
+pub use raw::{RawItem, RawRule, RawSchema};
+pub use statics::check_rule;
+pub use value::{build_premises, build_schema};

@@ -1,13 +1,12 @@
-ghost use Rattle.std.specs.Prelude.{◌<◌, ◌≤◌, [], length, IfOk};
-ghost use Rattle.mp_words.specs.Grammars.{whole};
+ghost use Rattle.std.specs.Prelude.{◌<◌, length, IfOk};
 ghost use Rattle.mp_words.specs.Reading.{Reads};
-ghost use Rattle.mp_schematext.specs.Grammar.{context, hypothesis, item, rule, schema, theory};
+ghost use Rattle.mp_schematext.specs.Grammar.{context, hypothesis, item, rule, schema};
 
-use crate::pattern::{Context, parse_arguments, parse_contexts, parse_pattern};
-use crate::raw::{RawItem, RawPattern, RawRule, RawSchema};
+use crate::{RawItem, RawRule, RawSchema};
 use mp_logic::List;
+use mp_patterntext::{Context, RawPattern, parse_arguments, parse_contexts, parse_pattern};
 use mp_words::{
-    Keyword, Mark, Named, RawName, ReadFail, Reader, Word, front, listed, many, mark, name_at,
+    Keyword, Mark, Named, RawName, ReadFail, Reader, Word, front, listed, mark, name_at,
     name_behind, stuck,
 };
 use std::alloc::Global;
@@ -143,12 +142,4 @@ impl Reader for RawRule {
             Err(fail) => Err(fail),
         }
     }
-}
-
-/// Reads a theory that is all of the words.
-pub fn parse_theory(alloc: Global, words: &[Word]) -> Result<List<RawRule>, ReadFail>
-    ensures reads { Reads (λ x. (x, [])) (whole theory) words.now result }
-    ensures few { IfOk result (λ rules. length rules ≤ length words.now) }
-{
-    many::<RawRule>(alloc, words)
 }

@@ -1,11 +1,10 @@
-mod ChainRows
-mod EntryWalks
 mod GoodEntries
 mod GoodSequents
-mod Shapes
-mod StepLists
+mod Links
+mod PlanSteps
+mod RawLayers
+mod RawTables
+mod Sights
+mod StrategySteps
 mod StrategyUnfolds
-mod AtomInduction
-mod AtomLayers
 mod Tables
-pub mod GoodScripts

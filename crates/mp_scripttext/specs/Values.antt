@@ -7,21 +7,21 @@ use Rattle.mp_scripttext.specs.declared.raw.RawEntry.{RawEntry}
 use Rattle.mp_scripttext.specs.declared.script.Entry.{Entry}
 use Rattle.mp_scripttext.specs.declared.script.Script.{Script}
 use Rattle.mp_steptext.specs.Terms.{just_of}
-use Rattle.mp_scripttext.specs.Strategies.{chain_strategy}
+use Rattle.mp_scripttext.specs.Strategies.{strategy_of}
 
 -- the fuel that is written, or 200
 abbrev pub fuel_of : Option RawNumber → ℕ
 fuel_of None = 200
 fuel_of (Some n) = nat_abs n.value
 
--- the goal that is written: each step has a justification of its own
+-- the goal that is written: each step has a justification of its own, and its strategies are numbered in preorder from 0
 abbrev pub entry_of : Laws → RawEntry → Entry
 entry_of t e = record {
   name = e.name.name;
   goal = sequent_value e.goal;
   fuel = fuel_of e.fuel;
-  justs = map (just_of t) (chain_strategy e.strategy).steps;
-  tacs = (chain_strategy e.strategy).rows 0 0;
+  justs = map (just_of t) (strategy_of e.strategy).steps;
+  tacs = (strategy_of e.strategy).rows 0 0;
 }
 
 -- the script that is written

@@ -2,12 +2,12 @@ ghost use Rattle.std.specs.Prelude.{ℕ, List, Ok};
 ghost use Rattle.mp_theory.specs.Tables.{IsTheory, Laws};
 ghost use Rattle.mp_scripttext.specs.declared.script.Script.{Script};
 ghost use Rattle.mp_scripttext.specs.Entries.{EachGood};
-ghost use Rattle.mp_scripttext.specs.Laws.{StrategyIsAtoms};
+ghost use Rattle.mp_scripttext.specs.Laws.{StrategyIsChains};
 ghost use Rattle.mp_scripttext.specs.Reading.{OneScriptText, ReadsScript, SomeScriptText};
 
-/// What a strategy is, by cases: atoms with `then` between each two.
+/// What a strategy is, by cases: chains with `orelse` between each two, each of atoms and links.
 pub fn strategy_cases()
-    ensures { StrategyIsAtoms }
+    ensures { StrategyIsChains }
 {}
 
 /// In each theory a text has one script or one fault, and not both.

@@ -3,14 +3,12 @@ ghost use Rattle.mp_words.specs.Grammars.{whole};
 ghost use Rattle.mp_words.specs.Reading.{Reads};
 ghost use Rattle.mp_scripttext.specs.Grammar.{entry, script};
 
-use crate::chain::parse_chain;
 use crate::raw::RawEntry;
+use crate::strategy::parse_strategy;
 use mp_logic::List;
 use mp_steptext::parse_number_behind;
 use mp_termtext::parse_sequent;
-use mp_words::{
-    Keyword, Mark, ReadFail, Reader, Word, front, keyword, many, mark, name_behind, stuck,
-};
+use mp_words::{Keyword, Mark, ReadFail, Reader, Word, keyword, many, mark, name_behind, stuck};
 use std::alloc::Global;
 
 impl Reader for RawEntry {
@@ -29,14 +27,12 @@ impl Reader for RawEntry {
         let Some(rest) = keyword(rest, Keyword::By) else {
             return Err(stuck(rest));
         };
-        let at = front(rest);
-        let (strategy, rest) = parse_chain(alloc, rest)?;
+        let (strategy, rest) = parse_strategy(alloc, rest)?;
         let entry = RawEntry {
             name,
             fuel,
             goal,
             strategy,
-            at,
         };
         Ok((entry, rest))
     }

@@ -1,6 +1,6 @@
 -- A step without static faults, which gives terms, has a justification that the theory allows.
 use Rattle.std.proofs.Common.{◌≡◌, ℕ, ◌+◌, ◌≤◌, ◌++◌, List, [], ◌∷◌, map, length, true, nat_eq, nat_lt, nat_le, not, Option, None, Some, refl, ap, sym, subst, ◌∙◌, arith}
-use Rattle.std.specs.Prelude.{is_some, option_and_then}
+use Rattle.std.specs.Prelude.{is_none, is_some, option_and_then, unwrap_or, false}
 use Rattle.std.specs.List.{flat_map}
 use Rattle.std.proofs.lemmas.Bool.{and_from}
 use Rattle.std.proofs.lemmas.Bool.Decides.{nat_tests}
@@ -13,24 +13,27 @@ use Rattle.mp_theory.specs.declared.rule.Need.{Need}
 use Rattle.mp_theory.specs.declared.rule.Rule.{Rule}
 use Rattle.mp_theory.specs.declared.just.Given.{Given}
 use Rattle.mp_theory.specs.Allowed.{are_for, is_allowed, is_allowed_at, is_for}
-use Rattle.mp_theory.specs.Tables.{Laws, IsRule, IsTheory, place_of_rule, rule_at}
-use Rattle.mp_theory.proofs.Laws.{rules_of_theories}
+use Rattle.mp_theory.specs.Tables.{Laws, IsRule, IsTheory, place_of_rewrite, place_of_rule, rewrite_at, rule_at}
+use Rattle.mp_theory.proofs.Laws.{names_of_rewrites, rules_of_theories}
 use Rattle.mp_words.specs.declared.raw.RawName.{RawName}
 use Rattle.mp_words.specs.declared.fail.TextWhy.TheVariants as why
 use Rattle.mp_words.specs.Faults.{fault_if}
+use Rattle.mp_words.specs.declared.fail.TextErr.{TextErr}
 use Rattle.mp_words.proofs.NoFaults.{nil_parts, no_fault}
 use Rattle.mp_termtext.specs.declared.raw.RawBound.{RawBound}
 use Rattle.mp_termtext.specs.Statics.{bound_faults_of, names_of, raw_size_of}
 use Rattle.mp_termtext.specs.Values.{IsFaultlessBound, bound_value_of, value_of}
 use Rattle.mp_termtext.proofs.RawLayers.{bound_value-is}
 use Rattle.mp_steptext.specs.declared.raw.RawGiven.{RawGiven}
+use Rattle.mp_steptext.specs.declared.raw.RawRuleStep.{RawRuleStep}
 use Rattle.mp_steptext.specs.declared.raw.RawStep.{RawStep}
-use Rattle.mp_steptext.specs.Statics.{all_given_faults, body_faults, given_of, missing_faults, need_of}
+use Rattle.mp_steptext.specs.declared.raw.RawStep.TheVariants as raw
+use Rattle.mp_steptext.specs.Statics.{all_given_faults, body_faults, given_of, missing_faults, need_of, rule_step_faults}
 use Rattle.mp_steptext.specs.Terms.{given_term, just_by, just_of, term_arity, term_body, given_term_faults, term_step_faults}
-use Rattle.mp_steptext.specs.Values.{body_in, first_hypotheses, given_for}
+use Rattle.mp_steptext.specs.Values.{body_in, first_hypotheses, given_for, rule_step_value}
 use Rattle.mp_steptext.proofs.DistinctNeeds.{AreFound, needs_found}
 use Rattle.mp_steptext.proofs.GoodTerms.{Fits, term_fits, body_faultless}
-use Rattle.mp_steptext.proofs.KeptSteps.{arity_is, given_body, no_failure, no_rule, placed, some_of, step_keeps, value_made}
+use Rattle.mp_steptext.proofs.KeptSteps.{arity_is, given_body, no_failure, no_rule, placed, rewrite_keeps, some_of, step_keeps, value_made}
 
 -- ## Given terms
 
@@ -73,7 +76,7 @@ module _ (gs : Terms) (needs : List Need) (terms : flat_map (body_faults term_ar
       let scoped : in_scope_of (term_body (body_in (given_of gs need.name))) (200 + need.arity) ≡ true = (λ i. in_scope_of (body i) (scope i)) ∙ fits.scoped in
       and_from _ _ (and_from _ _ (and_from _ _ (and_from _ _ named as_many) scoped) (ap (λ t. nat_le (depth_of t) 200) body ∙ shallow)) (ap few_binders_of body ∙ fits.few)
 
-  are_given : (s : RawStep RawBound) → s.given ≡ gs → (ns : List Need) → AreFound needs ns → flat_map (missing_faults s) ns ≡ [] → are_for ns (map (given_for given_term gs) ns) ≡ true
+  are_given : (s : RawRuleStep RawBound) → s.given ≡ gs → (ns : List Need) → AreFound needs ns → flat_map (missing_faults s) ns ≡ [] → are_for ns (map (given_for given_term gs) ns) ≡ true
   are_given s same [] own h = refl
   are_given s same (n ∷ ns) own h =
       let both = nil_parts (missing_faults s n) (flat_map (missing_faults s) ns) h in
@@ -81,11 +84,17 @@ module _ (gs : Terms) (needs : List Need) (terms : flat_map (body_faults term_ar
       let (g, is) = some_of (given_of gs n.name) (ap (λ x. is_some (given_of x n.name)) (sym same) ∙ there) in
       and_from _ _ (is_given n g own.0 is) (are_given s same ns own.1 both.1)
 
--- ## Steps
+-- ## Steps by rules
 
-module _ (t : Laws) (theory : IsTheory t) (s : RawStep RawBound) (h : term_step_faults t s ≡ []) where
+abbrev pub term_rule_faults : Laws → RawRuleStep RawBound → List TextErr
+term_rule_faults = rule_step_faults term_arity given_term_faults
+
+module _ (t : Laws) (theory : IsTheory t) (s : RawRuleStep RawBound) (h : term_rule_faults t s ≡ []) where
+  abbrev is_allowed_here : Type 0
+  is_allowed_here = is_allowed t (just_by (rule_step_value given_term t s)) ≡ true
+
   module _ (at : ℕ) (rule : Rule) (found_at : place_of_rule t s.rule.name ≡ Some at) (is : rule_at t at ≡ Some rule) where
-    just_allowed : is_allowed t (just_of t s) ≡ true
+    just_allowed : is_allowed_here
     just_allowed =
         let whole : IsRule rule = rules_of_theories t at rule theory is in
         let k = step_keeps term_arity given_term_faults t s at rule found_at is h in
@@ -97,14 +106,24 @@ module _ (t : Laws) (theory : IsTheory t) (s : RawStep RawBound) (h : term_step_
         ∙ ap (λ o. is_allowed_at o (first_hypotheses s.place) gs) is
         ∙ and_from _ _ (and_from _ _ whole.faultless (placed term_arity given_term_faults rule s s.place k.place)) (ap (λ ns. are_for ns gs) (sym same) ∙ are)
 
-  by_rule : (at : ℕ) (r : Option Rule) → place_of_rule t s.rule.name ≡ Some at → rule_at t at ≡ r → is_allowed t (just_of t s) ≡ true
+  by_rule : (at : ℕ) (r : Option Rule) → place_of_rule t s.rule.name ≡ Some at → rule_at t at ≡ r → is_allowed_here
   by_rule at None p e = absurd (no_rule term_arity given_term_faults t s h (ap (option_and_then (rule_at t)) p ∙ e))
   by_rule at (Some rule) p e = just_allowed at rule p e
 
-  by_place : (p : Option ℕ) → place_of_rule t s.rule.name ≡ p → is_allowed t (just_of t s) ≡ true
+  by_place : (p : Option ℕ) → place_of_rule t s.rule.name ≡ p → is_allowed_here
   by_place None p = absurd (no_rule term_arity given_term_faults t s h (ap (option_and_then (rule_at t)) p))
   by_place (Some at) p = by_rule at (rule_at t at) p refl
 
-  -- its justification is allowed
-  pub step_allowed : is_allowed t (just_of t s) ≡ true
-  step_allowed = by_place (place_of_rule t s.rule.name) refl
+-- ## Steps
+
+-- a place of a rewrite that the theory has
+rewrite_there : (t : Laws) (name : Sym) (p : Option ℕ) → place_of_rewrite t name ≡ p → is_none p ≡ false → is_some (rewrite_at t (unwrap_or p 0)) ≡ true
+rewrite_there t name None e h = absurd cc
+rewrite_there t name (Some at) e h = ap is_some (names_of_rewrites t name at e).1
+
+-- the justification of a step without faults is allowed
+pub step_allowed : (t : Laws) → IsTheory t → (s : RawStep RawBound) → term_step_faults t s ≡ [] → is_allowed t (just_of t s) ≡ true
+step_allowed t theory (raw.Rule s) h = by_place t theory s h (place_of_rule t s.rule.name) refl
+step_allowed t theory (raw.Rewrite s) h =
+    let place = place_of_rewrite t s.rewrite.name in
+    rewrite_there t s.rewrite.name place refl (no_fault (is_none place) s.rewrite.at why.UnknownName (rewrite_keeps t s h).named)

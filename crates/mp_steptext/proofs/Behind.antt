@@ -13,7 +13,7 @@ use Rattle.mp_words.specs.Seconds.{second_after, second_faults}
 use Rattle.mp_words.specs.Faults.{fault, fault_if, is_behind, is_sooner, least_from, rank_of, sooner}
 use Rattle.mp_words.proofs.Soonest.{least_from_append}
 use Rattle.mp_steptext.specs.declared.raw.RawGiven.{RawGiven}
-use Rattle.mp_steptext.specs.declared.raw.RawStep.{RawStep}
+use Rattle.mp_steptext.specs.declared.raw.RawRuleStep.{RawRuleStep}
 use Rattle.mp_steptext.specs.Statics.{all_given_faults, given_faults, given_of, missing_faults, need_faults, need_of}
 
 abbrev first : ℕ → ℕ → ℕ → ℕ → Bool
@@ -38,7 +38,7 @@ stays_if held true l w h = stays held l w h
 stays_if held false l w h = refl
 
 -- no need that isn't given counts
-pub missing_behind : {R : Type 0} (held : Option TextErr) (s : RawStep R) (needs : List Need) → is_behind held s.rule.at ≡ true → least_from held (flat_map (missing_faults s) needs) ≡ held
+pub missing_behind : {R : Type 0} (held : Option TextErr) (s : RawRuleStep R) (needs : List Need) → is_behind held s.rule.at ≡ true → least_from held (flat_map (missing_faults s) needs) ≡ held
 missing_behind held s [] h = refl
 missing_behind held s (need ∷ needs) h =
     let rest = flat_map (missing_faults s) needs in
@@ -83,26 +83,26 @@ again : (held : Option TextErr) (f : TextErr) → sooner (sooner held f) f ≡ s
 again None f = rw (not_itself f.at (rank_of f.why)) refl
 again (Some g) f = again_some g f (is_sooner f g) refl
 
-abbrev lacking : {R : Type 0} → RawStep R → TextErr
+abbrev lacking : {R : Type 0} → RawRuleStep R → TextErr
 lacking s = record { at = s.rule.at; why = why.MissingWith }
 
-one_more : {R : Type 0} (held : Option TextErr) (s : RawStep R) (test : Bool) → least_from (sooner held (lacking s)) (fault_if test s.rule.at why.MissingWith) ≡ sooner held (lacking s)
+one_more : {R : Type 0} (held : Option TextErr) (s : RawRuleStep R) (test : Bool) → least_from (sooner held (lacking s)) (fault_if test s.rule.at why.MissingWith) ≡ sooner held (lacking s)
 one_more held s true = again held (lacking s)
 one_more held s false = refl
 
 -- a need that is given counts for nothing
-pub none_missing : {R : Type 0} (held : Option TextErr) (s : RawStep R) (need : Need) → is_some (given_of s.given need.name) ≡ true → held ≡ least_from held (missing_faults s need)
+pub none_missing : {R : Type 0} (held : Option TextErr) (s : RawRuleStep R) (need : Need) → is_some (given_of s.given need.name) ≡ true → held ≡ least_from held (missing_faults s need)
 none_missing held s need there = ap (λ test. least_from held (fault_if (not test) s.rule.at why.MissingWith)) (sym there)
 
 -- once one need isn't given, the others change nothing
-pub missing_again : {R : Type 0} (held : Option TextErr) (s : RawStep R) (needs : List Need) → least_from (sooner held (lacking s)) (flat_map (missing_faults s) needs) ≡ sooner held (lacking s)
+pub missing_again : {R : Type 0} (held : Option TextErr) (s : RawRuleStep R) (needs : List Need) → least_from (sooner held (lacking s)) (flat_map (missing_faults s) needs) ≡ sooner held (lacking s)
 missing_again held s [] = refl
 missing_again held s (need ∷ needs) =
     let rest = flat_map (missing_faults s) needs in
     least_from_append (sooner held (lacking s)) (missing_faults s need) rest ∙ ap (λ o. least_from o rest) (one_more held s (not (is_some (given_of s.given need.name)))) ∙ missing_again held s needs
 
 -- the search ends at a need that isn't given, where those before it are
-pub missing_found : {R : Type 0} (held : Option TextErr) (s : RawStep R) (need : Need) (needs : List Need) → is_some (given_of s.given need.name) ≡ false → least_from held (flat_map (missing_faults s) (need ∷ needs)) ≡ sooner held (lacking s)
+pub missing_found : {R : Type 0} (held : Option TextErr) (s : RawRuleStep R) (need : Need) (needs : List Need) → is_some (given_of s.given need.name) ≡ false → least_from held (flat_map (missing_faults s) (need ∷ needs)) ≡ sooner held (lacking s)
 missing_found held s need needs none =
     let rest = flat_map (missing_faults s) needs in
     least_from_append held (missing_faults s need) rest ∙ ap (λ test. least_from (least_from held (fault_if (not test) s.rule.at why.MissingWith)) rest) none ∙ missing_again held s needs

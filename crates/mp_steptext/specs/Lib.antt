@@ -1,5 +1,6 @@
 pub mod Grammar
 pub mod Names
+pub mod Printing
 pub mod Statics
 pub mod Terms
 pub mod Values

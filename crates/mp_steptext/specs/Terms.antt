@@ -16,6 +16,7 @@ use Rattle.mp_termtext.specs.Statics.{bound_term_faults, names_of}
 use Rattle.mp_termtext.specs.Values.{value_of}
 use Rattle.mp_steptext.specs.declared.raw.RawStep.{RawStep}
 use Rattle.mp_steptext.specs.declared.body.StepValue.{StepValue}
+use Rattle.mp_steptext.specs.declared.body.StepValue.TheVariants as value
 use Rattle.mp_steptext.specs.Grammar.{step}
 use Rattle.mp_steptext.specs.Statics.{step_faults}
 use Rattle.mp_steptext.specs.Values.{step_value}
@@ -37,7 +38,7 @@ term_body (Some b) = value_of MOST_HYPOTHESES b.body (names_of b.binders)
 abbrev pub given_term : Need → Option RawBound → Given
 given_term need b = record { name = need.name; arity = need.arity; body = term_body b }
 
--- a step by a rule, with terms for its needs
+-- a step, with terms for its needs
 abbrev pub step_with_terms : Grammar Word (RawStep RawBound)
 step_with_terms = step bound
 
@@ -47,7 +48,8 @@ term_step_faults = step_faults term_arity given_term_faults
 
 -- a justification by the value of a step
 abbrev pub just_by : StepValue Given → Just
-just_by v = just.Rule v.rule v.first v.given
+just_by (value.Rule rule first given) = just.Rule rule first given
+just_by (value.Rewrite rewrite place address) = just.Rewrite rewrite place address
 
 -- the justification of a step
 abbrev pub just_of : Laws → RawStep RawBound → Just

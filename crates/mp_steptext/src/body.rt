@@ -1,10 +1,11 @@
-ghost use Rattle.std.specs.Prelude.{◌≡◌, ℕ, List, [], Option, Some, IfOk};
+ghost use Rattle.std.specs.Prelude.{◌≡◌, ◌++◌, ℕ, List, [], Option, Some, IfOk, OnOk};
 ghost use Rattle.mp_theory.specs.declared.rule.Need.{Need};
 ghost use Rattle.mp_words.specs.declared.fail.TextErr.{TextErr};
 ghost use Rattle.mp_words.specs.Faults.{least_from};
 
 use mp_logic::{List, NoMemory};
-use mp_theory::Need;
+use mp_names::Names;
+use mp_theory::{Address, Need, Place};
 use mp_words::{Reader, TextErr};
 use std::alloc::Global;
 
@@ -21,6 +22,9 @@ pub trait Body: Reader {
 
     /// What it gives for a need; a value of no account where none is written.
     ghost given: { Need → Option Self.Raw → Self.Given };
+
+    /// The one text of what is given for a need.
+    ghost text: { List (List ℕ) → Self.Given → List ℕ };
 
     /// The number of its binders.
     fn arity(raw: &Self::Raw) -> u64
@@ -39,15 +43,31 @@ pub trait Body: Reader {
     fn build(alloc: Global, need: &Need, raw: &Self::Raw, at: u32) -> Result<Self::Given, NoMemory>
         requires { faults at raw.now ≡ [] }
         ensures { IfOk result (λ it. it ≡ given need.now (Some raw.now)) };
+
+    /// Appends the one text of what is given for a need. Where there is no memory, some of it may have been appended.
+    fn push(out: &mut Vec<u8>, names: &Names, value: &Self::Given) -> Result<(), NoMemory>
+        ensures { OnOk result (out.new.items ≡ out.old.items ++ text names.now value.now) };
 }
 
-/// The value of a step by a rule.
+/// The value of a step.
 #[derive(Drop)]
-pub struct StepValue<G> {
-    /// The rule's place in the theory, counted from 0.
-    pub rule: u32,
-    /// Where the rule's conclusion has two contexts, how many hypotheses the first one has; None else.
-    pub first: Option<u32>,
-    /// What is given, in the order of the rule's needs.
-    pub given: List<G>,
+pub enum StepValue<G> {
+    /// By a rule.
+    Rule {
+        /// The rule's place in the theory, counted from 0.
+        rule: u32,
+        /// Where the rule's conclusion has two contexts, how many hypotheses the first one has; None else.
+        first: Option<u32>,
+        /// What is given, in the order of the rule's needs.
+        given: List<G>,
+    },
+    /// By a rewrite.
+    Rewrite {
+        /// The rewrite's place in the theory, counted from 0.
+        rewrite: u32,
+        /// The term of the goal that it rewrites in.
+        place: Place,
+        /// The way from that term to the subterm that is replaced.
+        address: Address,
+    },
 }

@@ -4,6 +4,7 @@
 
 mod body;
 mod names;
+mod print;
 mod raw;
 mod statics;
 mod syntax;
@@ -11,7 +12,8 @@ mod term;
 mod value;
 
 pub use body::{Body, StepValue};
-pub use raw::{RawGiven, RawStep};
+pub use print::{push_just, push_rule_step};
+pub use raw::{RawGiven, RawPlace, RawRewriteStep, RawRuleStep, RawStep};
 pub use statics::check_step;
 pub use syntax::{parse_number_behind, parse_step};
 pub use term::{GivenTerm, build_just};

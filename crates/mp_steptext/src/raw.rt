@@ -12,11 +12,38 @@ pub struct RawGiven<R> {
 
 /// A step by a rule as it is written.
 #[derive(Drop)]
-pub struct RawStep<R> {
+pub struct RawRuleStep<R> {
     pub rule: RawName,
     /// The number behind `at`, where it stands.
     pub place: Option<RawNumber>,
     pub given: List<RawGiven<R>>,
+}
+
+/// Which term of the goal a step rewrites in, as it is written.
+#[derive(Clone, Copy, Debug, PartialEq, Eq)]
+pub enum RawPlace {
+    /// The conclusion.
+    Concl,
+    /// The hypothesis of this number, counted from 1.
+    Hyp(RawNumber),
+}
+
+/// A step by a rewrite as it is written.
+#[derive(Drop)]
+pub struct RawRewriteStep {
+    pub rewrite: RawName,
+    pub place: RawPlace,
+    /// The way from that term to the subterm that is replaced: at each operator the number of the subterm, counted from 1.
+    pub address: List<RawNumber>,
+}
+
+/// A step as it is written.
+#[derive(Drop)]
+pub enum RawStep<R> {
+    /// By a rule.
+    Rule(RawRuleStep<R>),
+    /// By a rewrite.
+    Rewrite(RawRewriteStep),
 }
 
 impl<R> Named for RawGiven<R> {

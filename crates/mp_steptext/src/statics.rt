@@ -1,23 +1,34 @@
 ghost use Rattle.std.specs.Prelude.{◌≡◌, Some, IfOk, IfSome};
 ghost use Rattle.std.specs.List.{flat_map, list_all};
 ghost use Rattle.std.specs.Option.{option_copied};
+ghost use Rattle.mp_term.specs.declared.limits.TheConstants.{MOST_NODES};
 ghost use Rattle.mp_theory.specs.Tables.{IsRule, rule_named};
 ghost use Rattle.mp_words.specs.Faults.{is_behind, least_from};
+ghost use Rattle.mp_words.specs.Ranges.{number_faults};
 ghost use Rattle.mp_steptext.specs.Names.{AreNew, need_numbers};
-ghost use Rattle.mp_steptext.specs.Statics.{all_given_faults, body_faults, given_faults, missing_faults, need_faults, place_faults, named_rule_faults, step_faults};
+ghost use Rattle.mp_steptext.specs.Statics.{address_faults, all_given_faults, body_faults, given_faults, hypothesis_faults, missing_faults, need_faults, place_faults, named_rule_faults, rewrite_step_faults, rule_step_faults, step_faults};
 
 use crate::body::Body;
 use crate::names::{find_need, given_names, need_names};
-use crate::raw::{RawGiven, RawStep};
+use crate::raw::{RawGiven, RawPlace, RawRewriteStep, RawRuleStep, RawStep};
 use mp_logic::{NoMemory, Sym};
 use mp_schema::has_two_contexts;
-use mp_term::limits::MOST_HYPOTHESES;
+use mp_term::limits::{MOST_DEPTH, MOST_HYPOTHESES, MOST_NODES};
 use mp_theory::{Need, Rule, Theory};
-use mp_words::{TextErr, TextWhy, behind, check_second, check_written_number, sooner_of};
+use mp_words::{
+    RawNumber, TextErr, TextWhy, behind, check_number, check_second, check_written_number,
+    sooner_if, sooner_of,
+};
 use std::alloc::Global;
 
+/// The greatest number of a hypothesis.
+const MOST_HYPOTHESIS: u32 = MOST_HYPOTHESES as u32;
+
 /// The greatest number behind `at`: one more than a sequent has hypotheses.
-const MOST_PLACE: u32 = MOST_HYPOTHESES as u32 + 1;
+const MOST_PLACE: u32 = MOST_HYPOTHESIS + 1;
+
+/// The greatest number of a subterm: no operator has more of them.
+const MOST_SUBTERM: u32 = MOST_NODES as u32;
 
 /// The rule of this name.
 fn find_rule(theory: &Theory, name: Sym) -> Option<&Rule>
@@ -30,7 +41,7 @@ fn find_rule(theory: &Theory, name: Sym) -> Option<&Rule>
 
 /// The sooner one of the fault that is held and AtNeeded or AtRefused: `at` has to stand exactly where the conclusion of the
 /// rule has two contexts.
-fn check_place<R>(held: Option<TextErr>, rule: &Rule, raw: &RawStep<R>) -> Option<TextErr>
+fn check_place<R>(held: Option<TextErr>, rule: &Rule, raw: &RawRuleStep<R>) -> Option<TextErr>
     ensures { result ≡ least_from held (place_faults rule.now raw.now raw.now.place) }
 {
     let needed = has_two_contexts(&rule.concl);
@@ -47,7 +58,7 @@ fn check_missing<R>(
     alloc: Global,
     held: Option<TextErr>,
     needs: &[Need],
-    raw: &RawStep<R>,
+    raw: &RawRuleStep<R>,
 ) -> Result<Option<TextErr>, NoMemory>
     ensures { IfOk result (λ found. found ≡ least_from held (flat_map (missing_faults raw.now) needs.now)) }
 {
@@ -137,7 +148,7 @@ fn check_rule<B: Body>(
     alloc: Global,
     held: Option<TextErr>,
     rule: &Rule,
-    raw: &RawStep<B::Raw>,
+    raw: &RawRuleStep<B::Raw>,
 ) -> Result<Option<TextErr>, NoMemory>
     requires { IsRule rule.now }
     ensures { IfOk result (λ found. found ≡ least_from held (named_rule_faults B.arity B.faults (Some rule.now) raw.now)) }
@@ -163,6 +174,70 @@ fn check_bodies<B: Body>(
     Ok(held)
 }
 
+/// The soonest of the fault that is held and those of a step by a rule.
+fn check_rule_step<B: Body>(
+    alloc: Global,
+    theory: &Theory,
+    raw: &RawRuleStep<B::Raw>,
+    held: Option<TextErr>,
+) -> Result<Option<TextErr>, NoMemory>
+    ensures { IfOk result (λ found. found ≡ least_from held (rule_step_faults B.arity B.faults theory.now raw.now)) }
+{
+    let held = check_written_number(held, 1, MOST_PLACE, raw.place);
+    let held = check_bodies::<B>(alloc, raw.given.as_slice(), held)?;
+    let Some(rule) = find_rule(theory, raw.rule.name) else {
+        return Ok(sooner_of(held, raw.rule.at, TextWhy::UnknownName));
+    };
+    let found = check_rule::<B>(alloc, held, rule, raw)?;
+    Ok(found)
+}
+
+/// The sooner one of the fault that is held and that of a hypothesis's number.
+fn check_hypothesis(held: Option<TextErr>, place: RawPlace) -> Option<TextErr>
+    ensures { result ≡ least_from held (hypothesis_faults place) }
+{
+    match place {
+        RawPlace::Concl => held,
+        RawPlace::Hyp(number) => check_number(held, 1, MOST_HYPOTHESIS, number),
+    }
+}
+
+/// The soonest of the fault that is held and those of these numbers of subterms.
+fn check_subterms(held: Option<TextErr>, address: &[RawNumber]) -> Option<TextErr>
+    ensures { result ≡ least_from held (flat_map (number_faults 1 MOST_NODES) address.now) }
+{
+    let mut held = held;
+    for number in address {
+        held = check_number(held, 1, MOST_SUBTERM, *number);
+    }
+    held
+}
+
+/// The soonest of the fault that is held and those of an address: of each number, and of the first one too many.
+fn check_address(held: Option<TextErr>, address: &[RawNumber]) -> Option<TextErr>
+    ensures { result ≡ least_from held (address_faults address.now) }
+{
+    let held = check_subterms(held, address);
+    match address.get(MOST_DEPTH as usize) {
+        Some(number) => sooner_of(held, number.at, TextWhy::BadNumber),
+        None => held,
+    }
+}
+
+/// The soonest of the fault that is held and those of a step by a rewrite.
+fn check_rewrite_step(
+    theory: &Theory,
+    raw: &RawRewriteStep,
+    held: Option<TextErr>,
+) -> Option<TextErr>
+    ensures { result ≡ least_from held (rewrite_step_faults theory.now raw.now) }
+{
+    let held = check_hypothesis(held, raw.place);
+    let held = check_address(held, raw.address.as_slice());
+    let unknown = theory.rewrite_named(raw.rewrite.name).is_none();
+    sooner_if(held, unknown, raw.rewrite.at, TextWhy::UnknownName)
+}
+
 /// The soonest of the fault that is held and those of a step.
 pub fn check_step<B: Body>(
     alloc: Global,
@@ -172,11 +247,8 @@ pub fn check_step<B: Body>(
 ) -> Result<Option<TextErr>, NoMemory>
     ensures { IfOk result (λ found. found ≡ least_from held (step_faults B.arity B.faults theory.now raw.now)) }
 {
-    let held = check_written_number(held, 1, MOST_PLACE, raw.place);
-    let held = check_bodies::<B>(alloc, raw.given.as_slice(), held)?;
-    let Some(rule) = find_rule(theory, raw.rule.name) else {
-        return Ok(sooner_of(held, raw.rule.at, TextWhy::UnknownName));
-    };
-    let found = check_rule::<B>(alloc, held, rule, raw)?;
-    Ok(found)
+    match raw {
+        RawStep::Rule(step) => check_rule_step::<B>(alloc, theory, step, held),
+        RawStep::Rewrite(step) => Ok(check_rewrite_step(theory, step, held)),
+    }
 }

@@ -1,14 +1,18 @@
 ghost use Rattle.std.specs.Prelude.{◌≡◌, [], IfOk, IsTrue};
 ghost use Rattle.mp_theory.specs.Allowed.{is_allowed};
 ghost use Rattle.mp_termtext.specs.Grammar.{bound};
-ghost use Rattle.mp_steptext.specs.Terms.{given_term, just_of, term_arity, given_term_faults, term_step_faults};
+ghost use Rattle.mp_steptext.specs.Printing.{given_text};
+ghost use Rattle.mp_steptext.specs.Terms.{given_term, just_by, just_of, term_arity, given_term_faults, term_step_faults};
 
-use crate::body::Body;
+use crate::body::{Body, StepValue};
 use crate::raw::RawStep;
 use crate::value::build_step;
 use mp_logic::NoMemory;
+use mp_names::Names;
 use mp_term::limits::MOST_HYPOTHESES;
-use mp_termtext::{RawBound, build_bound, check_bound_term, parse_bound};
+use mp_termtext::{
+    RawBound, build_bound, check_bound_term, parse_bound, push_bound_term, push_bytes,
+};
 use mp_theory::{Given, Just, Need, Theory};
 use mp_words::{ReadFail, Reader, TextErr, Word};
 use std::alloc::Global;
@@ -39,6 +43,8 @@ impl Body for GivenTerm {
 
     ghost given = { given_term };
 
+    ghost text = { given_text };
+
     fn arity(raw: &RawBound) -> u64 {
         raw.binders.len()
     }
@@ -61,6 +67,12 @@ impl Body for GivenTerm {
             body: bound.body,
         })
     }
+
+    fn push(out: &mut Vec<u8>, names: &Names, value: &Given) -> Result<(), NoMemory> {
+        push_bytes(out, names.text(value.name))?;
+        push_bytes(out, b" := ")?;
+        push_bound_term(out, names, FREE, value.arity, &value.body)
+    }
 }
 
 /// The justification of a step that keeps the static rules. The theory allows it.
@@ -76,9 +88,23 @@ pub fn build_just(
     // `len` ensures that these are a theory's laws, by which the justification is allowed.
     let _count = theory.len();
     let value = build_step::<GivenTerm>(alloc, theory, step)?;
-    Ok(Just::Rule {
-        rule: value.rule,
-        first: value.first,
-        given: value.given,
-    })
+    Ok(just_by(value))
+}
+
+/// The justification by the value of a step.
+fn just_by(value: StepValue<Given>) -> Just
+    ensures { result ≡ just_by value }
+{
+    match value {
+        StepValue::Rule { rule, first, given } => Just::Rule { rule, first, given },
+        StepValue::Rewrite {
+            rewrite,
+            place,
+            address,
+        } => Just::Rewrite {
+            rewrite,
+            place,
+            address,
+        },
+    }
 }

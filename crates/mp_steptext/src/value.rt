@@ -1,24 +1,24 @@
 ghost use Rattle.std.specs.Prelude.{◌≡◌, ◌+◌, [], map, IfOk};
 ghost use Rattle.std.specs.List.{flat_map};
-ghost use Rattle.mp_term.specs.declared.limits.TheConstants.{MOST_HYPOTHESES};
-ghost use Rattle.mp_words.specs.Ranges.{written_number_faults};
+ghost use Rattle.mp_term.specs.declared.limits.TheConstants.{MOST_HYPOTHESES, MOST_NODES};
+ghost use Rattle.mp_words.specs.Ranges.{number_faults, written_number_faults};
 ghost use Rattle.mp_steptext.specs.Names.{given_numbers};
-ghost use Rattle.mp_steptext.specs.Statics.{all_given_faults, body_faults, missing_faults, step_faults};
-ghost use Rattle.mp_steptext.specs.Values.{first_hypotheses, given_for, step_value};
+ghost use Rattle.mp_steptext.specs.Statics.{address_faults, all_given_faults, body_faults, hypothesis_faults, missing_faults, rewrite_step_faults, rule_step_faults, step_faults};
+ghost use Rattle.mp_steptext.specs.Values.{first_hypotheses, from_0, given_for, place_value, rewrite_step_value, rule_step_value, step_value};
 
 use crate::body::{Body, StepValue};
 use crate::names::{find_given, given_names};
-use crate::raw::RawStep;
+use crate::raw::{RawPlace, RawRewriteStep, RawRuleStep, RawStep};
 use mp_logic::{List, NoMemory};
 use mp_names::NameSet;
-use mp_theory::{Need, Theory};
+use mp_theory::{Address, Need, Place, Theory};
 use mp_words::RawNumber;
 use std::alloc::Global;
 
 /// What a step gives for a need, where what it gives has these names.
 fn build_given<B: Body>(
     alloc: Global,
-    step: &RawStep<B::Raw>,
+    step: &RawRuleStep<B::Raw>,
     names: &NameSet,
     need: &Need,
 ) -> Result<B::Given, NoMemory>
@@ -36,7 +36,7 @@ fn build_given<B: Body>(
 /// What a step gives, in the order of the needs.
 fn build_all_given<B: Body>(
     alloc: Global,
-    step: &RawStep<B::Raw>,
+    step: &RawRuleStep<B::Raw>,
     needs: &List<Need>,
 ) -> Result<List<B::Given>, NoMemory>
     requires bodies { flat_map (body_faults B.arity B.faults) step.now.given ≡ [] }
@@ -66,6 +66,80 @@ fn build_first(place: Option<RawNumber>) -> Option<u32>
     }
 }
 
+/// The value of a step by a rule that keeps the static rules.
+fn build_rule_step<B: Body>(
+    alloc: Global,
+    theory: &Theory,
+    step: &RawRuleStep<B::Raw>,
+) -> Result<StepValue<B::Given>, NoMemory>
+    requires { rule_step_faults B.arity B.faults theory.now step.now ≡ [] }
+    ensures { IfOk result (λ value. value ≡ rule_step_value B.given theory.now step.now) }
+{
+    let Some(place) = theory.rule_named(step.rule.name) else {
+        unreachable!()
+    };
+    let Some(rule) = theory.rule(place) else {
+        unreachable!()
+    };
+    let given = build_all_given::<B>(alloc, step, &rule.needs)?;
+    Ok(StepValue::Rule {
+        rule: place,
+        first: build_first(step.place),
+        given,
+    })
+}
+
+/// The term of the goal that is rewritten in.
+fn build_place(place: RawPlace) -> Place
+    requires { hypothesis_faults place ≡ [] }
+    ensures { result ≡ place_value place }
+{
+    match place {
+        RawPlace::Concl => Place::Concl,
+        RawPlace::Hyp(number) => Place::Hyp((number.value - 1) as u32),
+    }
+}
+
+/// The number of a subterm, counted from 0.
+fn build_subterm(number: RawNumber) -> u32
+    requires { number_faults 1 MOST_NODES number ≡ [] }
+    ensures { result ≡ from_0 number }
+{
+    (number.value - 1) as u32
+}
+
+/// The way to the subterm that is replaced.
+fn build_address(alloc: Global, address: &[RawNumber]) -> Result<Address, NoMemory>
+    requires { address_faults address.now ≡ [] }
+    ensures { IfOk result (λ built. built ≡ map from_0 address.now) }
+{
+    let mut built = Address::new(alloc);
+    for number in address {
+        built.push(build_subterm(*number))?;
+    }
+    Ok(built)
+}
+
+/// The value of a step by a rewrite that keeps the static rules.
+fn build_rewrite_step<G>(
+    alloc: Global,
+    theory: &Theory,
+    step: &RawRewriteStep,
+) -> Result<StepValue<G>, NoMemory>
+    requires { rewrite_step_faults theory.now step.now ≡ [] }
+    ensures { IfOk result (λ value. value ≡ rewrite_step_value theory.now step.now) }
+{
+    let Some(rewrite) = theory.rewrite_named(step.rewrite.name) else {
+        unreachable!()
+    };
+    let address = build_address(alloc, step.address.as_slice())?;
+    Ok(StepValue::Rewrite {
+        rewrite,
+        place: build_place(step.place),
+        address,
+    })
+}
+
 /// The value of a step that keeps the static rules.
 pub fn build_step<B: Body>(
     alloc: Global,
@@ -75,16 +149,8 @@ pub fn build_step<B: Body>(
     requires { step_faults B.arity B.faults theory.now step.now ≡ [] }
     ensures { IfOk result (λ value. value ≡ step_value B.given theory.now step.now) }
 {
-    let Some(place) = theory.rule_named(step.rule.name) else {
-        unreachable!()
-    };
-    let Some(rule) = theory.rule(place) else {
-        unreachable!()
-    };
-    let given = build_all_given::<B>(alloc, step, &rule.needs)?;
-    Ok(StepValue {
-        rule: place,
-        first: build_first(step.place),
-        given,
-    })
+    match step {
+        RawStep::Rule(step) => build_rule_step::<B>(alloc, theory, step),
+        RawStep::Rewrite(step) => build_rewrite_step(alloc, theory, step),
+    }
 }

@@ -36,6 +36,12 @@ abbrev pub IsGood : {G J : Type 0} → Meaning G J → Outcome G → Type 0
 IsGood m (outcome.Tree t) = EachGoal (λ g. IsTrue (m.good g)) t
 IsGood m (outcome.Failure e) = IsTrue (m.good e.goal)
 
+-- the meanings are alike for strategies: an allowed justification gives a good goal the same step, and the test of goals is
+-- the same
+pub record AreAlike {G J : Type 0} (m n : Meaning G J) : Type 0 where
+  pub step : (j : J) (g : G) → IsTrue (m.allowed j) → IsTrue (m.good g) → m.step j g ≡ n.step j g
+  pub same : (a b : G) → m.same a b ≡ n.same a b
+
 module _ {L G J : Type 0} (meaning : L → Meaning G J) (p : ProblemState L J) where
   -- a tree is valid for the work's goal, and no path of it has more steps than the work's fuel
   abbrev pub IsSound : Work G → Outcome G → Type 0
@@ -65,3 +71,8 @@ module _ {L G J : Type 0} (meaning : L → Meaning G J) (p : ProblemState L J) w
   abbrev pub ClosedGoalsAreDerivable : Type 0
   ClosedGoalsAreDerivable =
       (work : Work G) (t : Tree G) → IsTrue ((meaning p.logic).good work.goal) → Evals meaning p work (outcome.Tree t) → leaf_count_of t ≡ 0 → Derivable (meaning p.logic) work.goal
+
+  -- another meaning that is alike gives each work on a good goal the same outcome
+  abbrev pub SameOutcomes : Type 0
+  SameOutcomes =
+      (other : L → Meaning G J) (work : Work G) → AreAlike (meaning p.logic) (other p.logic) → IsTrue ((meaning p.logic).good work.goal) → eval meaning p work ≡ eval other p work

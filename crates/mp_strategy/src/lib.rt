@@ -2,6 +2,7 @@
 #![tactic(auto)]
 
 mod fitting;
+mod law;
 mod limits;
 mod outcome;
 mod problem;
@@ -9,6 +10,7 @@ mod tactic;
 mod work;
 
 pub use fitting::fits;
+pub use law::same_outcomes;
 pub use limits::{MOST_BRANCHES, MOST_DEPTH, MOST_FUEL, MOST_NODES, MOST_REPEATS};
 pub use outcome::{Failure, Kind, Outcome, copy_outcome};
 pub use problem::{Problem, ProblemState};

@@ -1,5 +1,5 @@
 -- Words that are laid at some places.
-use Rattle.std.proofs.Common.{◌≡◌, ◌≤◌, ℕ, suc, List, [], ◌∷◌, Bool, true, false, nat_eq, if◌then◌else◌, length, map, refl, ap, ◌∙◌, arith}
+use Rattle.std.proofs.Common.{◌≡◌, ◌≤◌, ◌++◌, ℕ, suc, List, [], ◌∷◌, Bool, true, false, nat_eq, if◌then◌else◌, length, map, refl, ap, ◌∙◌, arith}
 use Rattle.std.proofs.lemmas.Bool.Decides.{nat_tests}
 use Rattle.mp_words.specs.declared.word.What.{What}
 use Rattle.mp_words.specs.declared.word.Word.{Word}
@@ -53,3 +53,14 @@ laid_by at opens (w ∷ ws) h k =
 -- all words are laid at their places
 pub laid_again : (ws : List Word) → laid_at (at_left (λ w. w.at) 0 ws) (at_left (λ w. w.opens_line) false ws) (whats ws) ≡ ws
 laid_again ws = laid_by (at_left (λ w. w.at) 0 ws) (at_left (λ w. w.opens_line) false ws) ws (told (λ w. w.at) 0 ws) (told (λ w. w.opens_line) false ws)
+
+tells_rest : {A : Type 0} (of : Word → A) (f : ℕ → A) (ws rest : List Word) → Tells of f (ws ++ rest) → Tells of f rest
+tells_rest of f [] rest h = h
+tells_rest of f (w ∷ ws) rest h = tells_rest of f ws rest h.1
+
+-- words that follow others are laid at their places among all
+pub laid_rest : (ws rest : List Word) → laid_at (at_left (λ w. w.at) 0 (ws ++ rest)) (at_left (λ w. w.opens_line) false (ws ++ rest)) (whats rest) ≡ rest
+laid_rest ws rest =
+    let all = ws ++ rest in
+    laid_by (at_left (λ w. w.at) 0 all) (at_left (λ w. w.opens_line) false all) rest (tells_rest (λ w. w.at) (at_left (λ w. w.at) 0 all) ws rest (told (λ w. w.at) 0 all))
+    (tells_rest (λ w. w.opens_line) (at_left (λ w. w.opens_line) false all) ws rest (told (λ w. w.opens_line) false all))

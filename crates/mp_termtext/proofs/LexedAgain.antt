@@ -15,6 +15,7 @@ use Rattle.mp_lex.specs.declared.token.Token.{Token}
 use Rattle.mp_lex.specs.Bytes.{is_closing, is_digit, is_opening, is_small, is_word_byte}
 use Rattle.mp_lex.specs.Forms.{is_name, is_number, is_text}
 use Rattle.mp_lex.specs.Lex.{Lexing, begins_with, depth_after, lex, lex_from, string_len, token_text as bytes_of, with_front}
+use Rattle.mp_lex.proofs.Longest.{name_parts}
 use Rattle.mp_lex.proofs.Whole.{Begins, digits_begin, drop_whole, negative_begins, read_whole, small_begins, string_begins, take_whole, variable_begins}
 use Rattle.mp_term.specs.declared.term.Param.{Param}
 use Rattle.mp_term.specs.declared.term.Param.TheVariants.{Num, Str}
@@ -81,7 +82,7 @@ pub before_less : (C D : List ℕ → Type 0) (i o m : ℕ) (a : List ℕ) (ps :
 before_less C D i o m a ps h f before rest base d lim = f before rest base (h rest d) lim
 
 -- a token
-token_lexes : (k : Kind) (c : ℕ) (cs : List ℕ) (C : List ℕ → Type 0) (i o m : ℕ) → ((rest : List ℕ) → C rest → Begins k (suc (length cs)) (c ∷ (cs ++ rest)))
+pub token_lexes : (k : Kind) (c : ℕ) (cs : List ℕ) (C : List ℕ → Type 0) (i o m : ℕ) → ((rest : List ℕ) → C rest → Begins k (suc (length cs)) (c ∷ (cs ++ rest)))
     → ((base : ℕ) → base + m ≤ 250 → ((is_opening c && nat_le 250 (base + i)) ≡ false) × (depth_after (base + i) c ≡ base + o)) → Lexes C i o m (c ∷ cs) (piece k (c ∷ cs) ∷ [])
 token_lexes k c cs C i o m f g before rest base d lim =
     let at = length before in
@@ -99,12 +100,12 @@ token_lexes k c cs C i o m f g before rest base d lim =
     )
 
 -- a byte that is no bracket
-plain : (c i m : ℕ) → is_opening c ≡ false → is_closing c ≡ false → (base : ℕ) → base + m ≤ 250 → ((is_opening c && nat_le 250 (base + i)) ≡ false) × (depth_after (base + i) c ≡ base + i)
+pub plain : (c i m : ℕ) → is_opening c ≡ false → is_closing c ≡ false → (base : ℕ) → base + m ≤ 250 → ((is_opening c && nat_le 250 (base + i)) ≡ false) × (depth_after (base + i) c ≡ base + i)
 plain c i m e f base lim =
     (ap (λ b. b && nat_le 250 (base + i)) e, ap (λ b. if b then base + i + 1 else if is_closing c then base + i - 1 else base + i) e ∙ ap (λ b. if b then base + i - 1 else base + i) f)
 
 -- a space
-blank : (i m : ℕ) → Lexes Always i i m (codes " ") []
+pub blank : (i m : ℕ) → Lexes Always i i m (codes " ") []
 blank i m before rest base d lim =
     let len = length-append before (codes " ") in
     let to : length before + 1 ≡ length (before ++ codes " ") = omega (arith, len) in
@@ -143,10 +144,10 @@ closed c m e f base lim =
     let less : base + 1 - 1 ≡ base + 0 = omega arith in
     (ap (λ b. b && nat_le 250 (base + 1)) e, ap (λ b. if b then base + 1 + 1 else if is_closing c then base + 1 - 1 else base + 1) e ∙ ap (λ b. if b then base + 1 - 1 else base + 1) f ∙ less)
 
-open_bracket : (m : ℕ) → 1 ≤ m → Lexes Always 0 1 m (codes "[") (mark_piece (codes "[") ∷ [])
+pub open_bracket : (m : ℕ) → 1 ≤ m → Lexes Always 0 1 m (codes "[") (mark_piece (codes "[") ∷ [])
 open_bracket m some = token_lexes kind.Mark 91 [] Always 0 1 m (λ rest d. refl) (opened 91 m some refl)
 
-close_bracket : (m : ℕ) → Lexes Always 1 0 m (codes "]") (mark_piece (codes "]") ∷ [])
+pub close_bracket : (m : ℕ) → Lexes Always 1 0 m (codes "]") (mark_piece (codes "]") ∷ [])
 close_bracket m = token_lexes kind.Mark 93 [] Always 1 0 m (λ rest d. refl) (closed 93 m refl refl)
 
 open_brace : (m : ℕ) → 1 ≤ m → Lexes Always 0 1 m (codes "{") (mark_piece (codes "{") ∷ [])
@@ -154,9 +155,6 @@ open_brace m some = token_lexes kind.Mark 123 [] Always 0 1 m (λ rest d. refl) 
 
 close_brace : (m : ℕ) → Lexes Always 1 0 m (codes "}") (mark_piece (codes "}") ∷ [])
 close_brace m = token_lexes kind.Mark 125 [] Always 1 0 m (λ rest d. refl) (closed 125 m refl refl)
-
-small_first : (c : ℕ) (cs : List ℕ) → is_name is_small (c ∷ cs) ≡ true → is_small c ≡ true
-small_first c cs h = (and_parts (is_small c) (list_all is_word_byte cs) (and_parts (is_small c && list_all is_word_byte cs) (nat_lt (length cs) 64) h).0).0
 
 small_opens : (c : ℕ) → is_small c ≡ true → is_opening c ≡ false
 small_opens c h = grind (arith, nat_tests, h)
@@ -168,7 +166,7 @@ small_closes c h = grind (arith, nat_tests, h)
 pub small_lexes : (i m : ℕ) (cs : List ℕ) → is_name is_small cs ≡ true → Lexes Stops i i m cs (piece kind.Small cs ∷ [])
 small_lexes i m [] h = absurd (true≢false (sym h))
 small_lexes i m (c ∷ cs) h =
-    let small = small_first c cs h in
+    let small = (name_parts is_small c cs h).0 in
     token_lexes kind.Small c cs Stops i i m (λ rest d. small_begins c cs rest h d) (plain c i m (small_opens c small) (small_closes c small))
 
 pub name_lexes : (i m l : ℕ) → l < most_levels → Lexes Stops i i m (name_text l) (name_piece l ∷ [])
@@ -213,13 +211,13 @@ string_lexes i m text h =
     (plain 34 i m refl refl)
 
 -- each text of a list is lexed as its pieces inside of a bracket
-abbrev AllLex : ℕ → List (List ℕ) → List (List Piece) → Type 0
+abbrev pub AllLex : ℕ → List (List ℕ) → List (List Piece) → Type 0
 AllLex m [] [] = Unit {0}
 AllLex m [] (q ∷ qs) = ⊥
 AllLex m (t ∷ ts) [] = ⊥
 AllLex m (t ∷ ts) (q ∷ qs) = Lexes Stops 1 1 m t q × AllLex m ts qs
 
-nothing : (m : ℕ) → Lexes Stops 0 0 m [] []
+pub nothing : (m : ℕ) → Lexes Stops 0 0 m [] []
 nothing m before rest base d lim =
     let same : length before ≡ length (before ++ []) = ap length (sym (append-nil before)) in
     ([], ap (λ j. lex_from 0 (base + 0) j rest) same ∙ no_front (lex_from 0 (base + 0) (length (before ++ [])) rest), refl)
@@ -238,7 +236,7 @@ module _ (m : ℕ) (begin close : List ℕ) (opening closing : Piece) (opens : L
       (joined Always Stops 1 1 1 m (codes "; ") t (mark_piece (codes ";") ∷ []) q (semicolon 1 m) h.0 (λ rest d. tt))
       (further_lexes ts qs h.1) (λ rest d. stops_further ts rest)
 
-  list_lexes : (ts : List (List ℕ)) (qs : List (List Piece)) → AllLex m ts qs → Lexes Stops 0 0 m (list_text begin close ts) (list_pieces opening closing qs)
+  pub list_lexes : (ts : List (List ℕ)) (qs : List (List Piece)) → AllLex m ts qs → Lexes Stops 0 0 m (list_text begin close ts) (list_pieces opening closing qs)
   list_lexes [] [] h = nothing m
   list_lexes [] (q ∷ qs) h = absurd h
   list_lexes (t ∷ ts) [] h = absurd h
@@ -265,7 +263,7 @@ further_binders_lex i m (suc n) l w =
     (further_binders_lex i m n (l + 1) (omega (arith, w))) (λ rest d. stops_binders n (l + 1) rest)
 
 -- binders before what they bind
-bound_by : (m n s : ℕ) (body : List ℕ) (ps : List Piece) → s + n ≤ most_levels → Lexes Stops 0 0 m body ps → Lexes Stops 0 0 m (binders_text s n ++ body) (binder_pieces s n ++ ps)
+pub bound_by : (m n s : ℕ) (body : List ℕ) (ps : List Piece) → s + n ≤ most_levels → Lexes Stops 0 0 m body ps → Lexes Stops 0 0 m (binders_text s n ++ body) (binder_pieces s n ++ ps)
 bound_by m zero s body ps w f = f
 bound_by m (suc n) s body ps w f =
     joined Always Stops 0 0 0 m (name_text s ++ further_binders_text (s + 1) n) body (name_piece s ∷ further_binder_pieces (s + 1) n) ps

@@ -138,7 +138,7 @@ module _ (at : ℕ → ℕ) (opens : ℕ → Bool) (names table : List (List ℕ
       (b ∷ others.0, row_cons a_name (is_mark mark.Comma) (is_mark mark.Dot) (token_shrinks name_at_word) (laid ts) b (laid us) others.0 (laid rest) refl refl refl others.1, ap (λ ns. name_at table l ∷ ns) others.2, ap (λ k. suc k) others.3)
 
   -- `,` or `.` stands in front
-  abbrev marks_binders : List What → Bool
+  abbrev pub marks_binders : List What → Bool
   marks_binders ws = fronted (is_mark mark.Comma) (laid ws) || fronted (is_mark mark.Dot) (laid ws)
 
   binders_begin : (n l : ℕ) (ws : List What) → begins_binders (laid (words (name_piece l ∷ further_binder_pieces (l + 1) n) ++ ws)) ≡ true
@@ -197,12 +197,13 @@ module _ (at : ℕ → ℕ) (opens : ℕ → Bool) (names table : List (List ℕ
       pub faultless : faults_of free raw (env n) d ≡ []
       pub size : raw_size_of raw ≡ size_of t
 
-    record BoundAgain (k : Bound) (n d : ℕ) (ts rest : List What) : Type 0 where
-      raw : RawBound
-      is : bound_by a_term (laid ts) ≡ read raw (laid rest)
-      value : bound_value_of free raw (env n) ≡ k
-      faultless : bound_faults_of free raw (env n) d ≡ []
-      size : raw_size_bound raw ≡ size_bound k
+    -- these words are read as the subterm
+    pub record BoundAgain (k : Bound) (n d : ℕ) (ts rest : List What) : Type 0 where
+      pub raw : RawBound
+      pub is : bound_by a_term (laid ts) ≡ read raw (laid rest)
+      pub value : bound_value_of free raw (env n) ≡ k
+      pub faultless : bound_faults_of free raw (env n) d ≡ []
+      pub size : raw_size_bound raw ≡ size_bound k
 
     record BoundsAgain (ks : List Bound) (n d : ℕ) (ts rest : List What) : Type 0 where
       raws : List RawBound
@@ -253,7 +254,8 @@ module _ (at : ℕ → ℕ) (opens : ℕ → Bool) (names table : List (List ℕ
             let same : s + (j - n) ≡ free + j = omega (arith, is, over) in
             subst (IsNamed table) same (further (j - n) (omega (arith, over, lt)))
 
-    bound_again_at : (b : ℕ) (t : Term) → ReadsAgain t → (s n m d : ℕ) → s ≡ free + n → b ≤ 8 → Fits names (s + b) m t → d + m ≤ 201 → EnvNamed n → AllHeld table (binder_pieces s b ++ term_pieces names t (s + b)) → (rest : List What) → IsClosed rest → marks_binders rest ≡ false
+    -- a printed term after so many binders is read again
+    pub bound_again_at : (b : ℕ) (t : Term) → ReadsAgain t → (s n m d : ℕ) → s ≡ free + n → b ≤ 8 → Fits names (s + b) m t → d + m ≤ 201 → EnvNamed n → AllHeld table (binder_pieces s b ++ term_pieces names t (s + b)) → (rest : List What) → IsClosed rest → marks_binders rest ≡ false
         → BoundAgain (record { binders = b; body = t }) n d (words (binder_pieces s b ++ term_pieces names t (s + b)) ++ rest) rest
     bound_again_at zero t f s n m d is few h lim named held rest c mk =
         let a = f (s + 0) n m d (omega (arith, is)) h lim named held rest c in

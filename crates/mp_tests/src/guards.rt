@@ -1,12 +1,16 @@
 //! What calls ask of terms and values, as tests.
-ghost use Rattle.std.specs.Prelude.{◌<◌, IsTrue, All};
+ghost use Rattle.std.specs.Prelude.{◌≡◌, ◌<◌, IsTrue, All};
 ghost use Rattle.mp_term.specs.Terms.{in_scope_of};
 ghost use Rattle.mp_term.specs.Subst.{widest_of};
 ghost use Rattle.mp_schema.specs.declared.instance.MetaVal.{MetaVal};
 ghost use Rattle.mp_build.specs.Laws.{IsTameTerm};
+ghost use Rattle.mp_theory.specs.Allowed.{is_good};
 
 use mp_schema::MetaVals;
-use mp_term::{Term, depth, few_binders, in_scope};
+use mp_term::{
+    Sequent, Term, depth, few_binders, in_scope, sequent_few_binders, sequent_in_scope,
+    within_limits,
+};
 
 /// Whether the term is in this scope, and each scope in it is far below the limit.
 #[tactic(auto, using(mp_term::proofs::BinderLaws::width))]
@@ -30,4 +34,11 @@ pub(crate) fn are_tame(metas: &MetaVals) -> bool
         }
     }
     true
+}
+
+/// Whether the goal is one that steps are tried on.
+pub(crate) fn is_good(goal: &Sequent) -> bool
+    ensures { result ≡ is_good goal.now }
+{
+    sequent_in_scope(goal) && sequent_few_binders(goal) && within_limits(goal)
 }

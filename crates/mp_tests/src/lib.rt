@@ -23,6 +23,8 @@ mod names_tests;
 #[cfg(test)]
 mod ports_tests;
 #[cfg(test)]
+mod rewriting_tests;
+#[cfg(test)]
 mod rows;
 #[cfg(test)]
 mod table;

@@ -10,7 +10,7 @@ use Rattle.mp_theory.specs.declared.just.Given.{Given}
 use Rattle.mp_theory.specs.declared.just.Just.{Just}
 use Rattle.mp_theory.specs.declared.just.Just.TheVariants as just
 use Rattle.mp_theory.specs.Needs.{needs_of}
-use Rattle.mp_theory.specs.Tables.{Laws, rule_at, is_faultless}
+use Rattle.mp_theory.specs.Tables.{Laws, rule_at, rewrite_at, is_faultless}
 use Rattle.mp_logic.specs.Lists.{same_bool}
 
 -- each term is in its scope, no subterm has more than 8 binders, and the sequent is within the limits
@@ -37,7 +37,8 @@ is_allowed_at None first given = false
 is_allowed_at (Some rule) first given =
     is_faultless rule && same_bool (is_some first) (has_two_contexts rule.concl) && are_for (needs_of rule.premises rule.concl) given
 
--- the justification names a rule that a theory may have, says the size of the first context exactly where the rule's
--- conclusion has two, and gives what the rule needs
+-- the justification names a law of its kind: of a rule it says the size of the first context exactly where the rule's
+-- conclusion has two, and gives what the rule needs; of a rewrite any place and any address are allowed
 abbrev pub is_allowed : Laws → Just → Bool
 is_allowed t (just.Rule place first given) = is_allowed_at (rule_at t place) first given
+is_allowed t (just.Rewrite at place address) = is_some (rewrite_at t at)

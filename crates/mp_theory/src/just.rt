@@ -1,3 +1,4 @@
+use crate::{Address, Place};
 use mp_logic::{List, Sym};
 use mp_term::Term;
 
@@ -24,5 +25,14 @@ pub enum Just {
         first: Option<u32>,
         /// The values of the rule's needs, in the order of the needs.
         given: List<Given>,
+    },
+    /// A rewrite of the theory, of one subterm of the goal.
+    Rewrite {
+        /// The rewrite's place in the theory, counted from 0.
+        rewrite: u32,
+        /// The term of the goal that it rewrites in.
+        place: Place,
+        /// The way from that term to the subterm that it replaces.
+        address: Address,
     },
 }

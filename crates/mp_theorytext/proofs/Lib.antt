@@ -1,15 +1,5 @@
 pub mod Adding
-pub mod ArgumentTells
 pub mod FaultWalks
-pub mod Fitting
-pub mod Gathering
-pub mod LikeUses
 pub mod Narrow
-pub mod RawLayers
-pub mod RuleTells
-pub mod SameNames
-pub mod SchemaTells
-pub mod SizesAndHoles
-pub mod Telling
-pub mod Twice
-pub mod ValueWalks
+pub mod RewriteSteps
+pub mod RewriteTells

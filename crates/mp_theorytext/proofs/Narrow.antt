@@ -1,182 +1,51 @@
--- Where no static rule is broken, numbers are small, and no rule is broken in the parts.
-use Rattle.std.proofs.Common.{◌≡◌, ◌++◌, ◌+◌, ◌<◌, ◌≤◌, ◌^◌, ℕ, List, [], ◌∷◌, true, false, None, length, length-append, map, drop, get_or, ap, sym, subst, ◌∙◌, arith}
-use Rattle.std.specs.Prelude.{unwrap_or, nat_lt}
+-- Where no static rule is broken in a rewrite, none is broken in its patterns.
+use Rattle.std.proofs.Common.{◌≡◌, ◌≤◌, ◌+◌, ◌*◌, ◌++◌, ℕ, List, [], ◌∷◌, map, length, true, false, sym, subst, arith}
 use Rattle.std.specs.List.{flat_map}
-use Rattle.std.proofs.lemmas.List.{length-map}
 use Rattle.mp_logic.specs.declared.sym.Sym.{Sym}
 use Rattle.mp_words.specs.declared.fail.TextErr.{TextErr}
-use Rattle.mp_words.specs.declared.fail.TextWhy.TheVariants as why
-use Rattle.mp_words.specs.declared.raw.RawName.{RawName}
-use Rattle.mp_words.specs.Faults.{fault_if, too_many}
-use Rattle.mp_words.specs.Seconds.{second_faults}
-use Rattle.mp_words.proofs.NoFaults.{nil_parts, not_many}
-use Rattle.mp_words.proofs.Walks.{left_cons}
-use Rattle.mp_termtext.specs.Statics.{deep, each_faults, names_of, unless_bound}
-use Rattle.mp_termtext.proofs.Faultless.{level_small, not_deep}
-use Rattle.mp_schematext.specs.declared.raw.RawParamPat.{RawParamPat}
-use Rattle.mp_schematext.specs.declared.raw.RawPatternBound.{RawPatternBound}
-use Rattle.mp_schematext.specs.declared.raw.RawPattern.{RawPattern}
-use Rattle.mp_schematext.specs.declared.raw.RawPattern as raw
-use Rattle.mp_schematext.specs.declared.raw.RawItem.{RawItem}
-use Rattle.mp_schematext.specs.declared.raw.RawItem.TheVariants as item
-use Rattle.mp_schematext.specs.declared.raw.RawSchema.{RawSchema}
-use Rattle.mp_schematext.specs.declared.raw.RawRule.{RawRule}
-use Rattle.mp_theorytext.specs.Buildable.{AreFaultless, AreFaultlessBounds, AreFaultlessItems, AreFaultlessPremises, IsFaultless, IsFaultlessBound, IsFaultlessItem, IsFaultlessSchema}
-use Rattle.mp_theorytext.specs.Scopes.{contexts_of, contexts_past, env_behind, env_past, level_in, syms_of}
-use Rattle.mp_theorytext.specs.Nodes.{argument_of, bound_node_faults, dangling_faults, node_faults, param_place, use_faults}
-use Rattle.mp_theorytext.specs.Statics.{conclusion_faults, frame_faults, item_at, item_faults, items_faults, premise_faults, raw_schema_size_of, rule_faults, schema_faults, uses_faults}
-use Rattle.mp_theorytext.specs.Uses.{hole_faults, raw_schema_holes, uses_in_rule}
-use Rattle.mp_theorytext.proofs.RawLayers.{bound_node_faults-is, node_faults-Meta, node_faults-Op, node_faults-Var}
+use Rattle.mp_words.specs.Faults.{too_many}
+use Rattle.mp_words.proofs.NoFaults.{nil_parts}
+use Rattle.mp_termtext.specs.Statics.{each_faults}
+use Rattle.mp_patterntext.specs.declared.raw.RawPattern.{RawPattern}
+use Rattle.mp_patterntext.specs.Buildable.{AreFaultless, IsFaultless}
+use Rattle.mp_patterntext.specs.Scopes.{syms_of}
+use Rattle.mp_patterntext.specs.Nodes.{node_faults, pattern_at}
+use Rattle.mp_patterntext.specs.Uses.{hole_faults, raw_holes, uses_faults, uses_in}
+use Rattle.mp_theorytext.specs.declared.raw.RawRewrite.{RawRewrite}
+use Rattle.mp_theorytext.specs.Statics.{meta_faults, rewrite_faults, rewrite_node_faults, rewrite_size_faults, uses_in_rewrite}
 
--- ## Patterns
-
--- the level of a variable fits 32 bits
-pub level_fits : (t : RawPattern) (n : Sym) (at : ℕ) (env : List Sym) → t ≡ raw.Var n at → IsFaultless t env → unwrap_or (level_in env n) 0 < 2 ^ 32
-level_fits t n at env e h =
-    let f : deep h.2 at ++ unless_bound at (level_in env n) ≡ [] = sym (ap (λ r. node_faults h.0 h.1 r env h.2) e ∙ node_faults-Var h.0 h.1 n at env h.2) ∙ h.3 in
-    let d = not_deep h.2 at (nil_parts (deep h.2 at) (unless_bound at (level_in env n)) f).0 in
-    let small = level_small 0 env n None in
-    let long = h.4 in
-    omega (arith, d, small, long)
-
-pub op_faultless : (t : RawPattern) (n : Sym) (ps : List RawParamPat) (ks us : List RawPatternBound) (at : ℕ) (env : List Sym) → t ≡ raw.Op n ps ks at → us ≡ ks → IsFaultless t env → AreFaultlessBounds us env
-op_faultless t n ps ks us at env e same h =
-    let subs = each_faults (map (bound_node_faults h.0 h.1) ks) env (h.2 + 1) in
-    let f : deep h.2 at ++ too_many param_place 16 ps ++ subs ≡ [] = sym (ap (λ r. node_faults h.0 h.1 r env h.2) e ∙ node_faults-Op h.0 h.1 n ps ks at env h.2) ∙ h.3 in
-    let long = h.4 in
-    (h.0, h.1, h.2 + 1, ap (λ vs. each_faults (map (bound_node_faults h.0 h.1) vs) env (h.2 + 1)) same ∙ (nil_parts (deep h.2 at ++ too_many param_place 16 ps) subs f).1, omega (arith, long))
-
-pub meta_faultless : (t : RawPattern) (n : Sym) (cs : List RawName) (xs ys : List RawPattern) (at : ℕ) (env : List Sym) → t ≡ raw.Meta n cs xs at → ys ≡ xs → IsFaultless t env → AreFaultless ys env
-meta_faultless t n cs xs ys at env e same h =
-    let args = each_faults (map (node_faults h.0 h.1) xs) env (h.2 + 1) in
-    let uses = use_faults h.0 h.1 cs (map argument_of xs) in
-    let f : deep h.2 at ++ uses ++ args ≡ [] = sym (ap (λ r. node_faults h.0 h.1 r env h.2) e ∙ node_faults-Meta h.0 h.1 n cs xs at env h.2) ∙ h.3 in
-    let long = h.4 in
-    (h.0, h.1, h.2 + 1, ap (λ vs. each_faults (map (node_faults h.0 h.1) vs) env (h.2 + 1)) same ∙ (nil_parts (deep h.2 at ++ uses) args f).1, omega (arith, long))
-
--- the first of some subterms, and the rest of them
-pub first_bound : (ks : List RawPatternBound) (i : ℕ) (k : RawPatternBound) (env now : List Sym) → i < length ks → k ≡ get_or ks i k → now ≡ env → AreFaultlessBounds (drop i ks) env → IsFaultlessBound k now × AreFaultlessBounds (drop (i + 1) ks) env
-first_bound ks i k env now lt is same h =
-    let rest = drop (i + 1) ks in
-    let all = ap (λ us. each_faults (map (bound_node_faults h.0 h.1) us) env h.2) (sym (left_cons ks i k lt is)) ∙ h.3 in
-    let both = nil_parts (bound_node_faults h.0 h.1 k env h.2) (each_faults (map (bound_node_faults h.0 h.1) rest) env h.2) all in
-    let here : IsFaultlessBound k env = (h.0, h.1, h.2, both.0, h.4) in
-    (subst (IsFaultlessBound k) (sym same) here, (h.0, h.1, h.2, both.1, h.4))
-
--- the first of some arguments, and the rest of them
-pub first_argument : (xs : List RawPattern) (i : ℕ) (x : RawPattern) (env now : List Sym) → i < length xs → x ≡ get_or xs i x → now ≡ env → AreFaultless (drop i xs) env → IsFaultless x now × AreFaultless (drop (i + 1) xs) env
-first_argument xs i x env now lt is same h =
-    let rest = drop (i + 1) xs in
-    let all = ap (λ us. each_faults (map (node_faults h.0 h.1) us) env h.2) (sym (left_cons xs i x lt is)) ∙ h.3 in
-    let both = nil_parts (node_faults h.0 h.1 x env h.2) (each_faults (map (node_faults h.0 h.1) rest) env h.2) all in
-    let here : IsFaultless x env = (h.0, h.1, h.2, both.0, h.4) in
-    (subst (IsFaultless x) (sym same) here, (h.0, h.1, h.2, both.1, h.4))
-
--- a subterm has few binders, and a body without faults
-pub bound_faultless : (k : RawPatternBound) (env now : List Sym) → now ≡ env ++ names_of k.binders → IsFaultlessBound k env → IsFaultless k.body now × (length k.binders ≤ 8)
-bound_faultless k env now e h =
-    let many = too_many (λ (b : RawName). b.at) 8 k.binders in
-    let both = nil_parts many (node_faults h.0 h.1 k.body (env ++ names_of k.binders) h.2) (sym (bound_node_faults-is h.0 h.1 k env h.2) ∙ h.3) in
-    let few = not_many (λ (b : RawName). b.at) 8 k.binders both.0 in
-    let len = length-append env (names_of k.binders) in
-    let names = length-map k.binders (λ (b : RawName). b.name) in
-    let long = h.4 in
-    let inner : IsFaultless k.body (env ++ names_of k.binders) = (h.0, h.1, h.2, both.1, omega (arith, few, len, names, long)) in
-    (subst (IsFaultless k.body) (sym e) inner, few)
-
--- ## Items
-
-pub context_faultless : (t : RawItem) (n : RawName) (cs : List RawName) (xs ys : List RawPattern) (at : ℕ) (env : List Sym) → t ≡ item.Ctx n cs xs at → ys ≡ xs → IsFaultlessItem t env → AreFaultless ys env
-context_faultless t n cs xs ys at env e same h =
-    let uses = use_faults h.0 h.1 cs (map argument_of xs) in
-    let args = each_faults (map (node_faults h.0 h.1) xs) env 2 in
-    let both = nil_parts uses args (ap (λ i. item_faults h.0 h.1 i env) (sym e) ∙ h.2) in
-    let long = h.3 in
-    (h.0, h.1, 2, ap (λ vs. each_faults (map (node_faults h.0 h.1) vs) env 2) same ∙ both.1, omega (arith, long))
-
-env_grows : (i : RawItem) (env : List Sym) → length (env_past i env) ≤ length env + 1
-env_grows (item.Ctx n cs xs l) env = omega arith
-env_grows (item.Hyp n p l) env = let a = length-append env (n ∷ []) in omega (arith, a)
-
--- the first of some items, and the rest of them
-pub first_item : (is : List RawItem) (i : ℕ) (x : RawItem) (env now : List Sym) → i < length is → x ≡ get_or is i x → now ≡ env_past x env → AreFaultlessItems (drop i is) env → IsFaultlessItem x env × AreFaultlessItems (drop (i + 1) is) now
-first_item is i x env now lt at grown h =
-    let rest = drop (i + 1) is in
-    let opened = left_cons is i x lt at in
-    let all = ap (λ us. items_faults h.0 h.1 us env) (sym opened) ∙ h.2 in
-    let both = nil_parts (item_faults h.0 h.1 x env) (items_faults (contexts_past x h.0) h.1 rest (env_past x env)) all in
-    let one = ap length opened in
-    let more = env_grows x env in
-    let long = h.3 in
-    let after : AreFaultlessItems rest (env_past x env) = (contexts_past x h.0, h.1, both.1, omega (arith, one, more, long)) in
-    ((h.0, h.1, both.0, omega (arith, one, long)), subst (AreFaultlessItems rest) (sym grown) after)
-
-env_short : (is : List RawItem) (env : List Sym) → length (env_behind is env) ≤ length env + length is
-env_short [] env = omega arith
-env_short (i ∷ is) env = let a = env_short is (env_past i env) in let g = env_grows i env in omega (arith, a, g)
-
--- ## Schemata and rules
-
-module _ (s : RawSchema) (h : IsFaultlessSchema s) where
-  abbrev counts : List TextErr
-  counts = too_many item_at 200 s.items
-
-  abbrev twice : List TextErr
-  twice = second_faults (λ (c : RawName). c) why.TwiceContext (contexts_of s)
-
-  abbrev nodes : List TextErr
-  nodes = node_faults (syms_of (contexts_of s)) h.0 s.concl (env_behind s.items []) 1
-
-  last : (counts ++ twice ++ items_faults [] h.0 s.items [] ++ nodes ≡ []) × (fault_if (nat_lt 20000 (raw_schema_size_of s)) s.at why.TooBig ≡ [])
-  last = nil_parts (counts ++ twice ++ items_faults [] h.0 s.items [] ++ nodes) (fault_if (nat_lt 20000 (raw_schema_size_of s)) s.at why.TooBig) h.1
-
-  middle : (counts ++ twice ++ items_faults [] h.0 s.items [] ≡ []) × (nodes ≡ [])
-  middle = nil_parts (counts ++ twice ++ items_faults [] h.0 s.items []) nodes last.0
-
-  first : (counts ++ twice ≡ []) × (items_faults [] h.0 s.items [] ≡ [])
-  first = nil_parts (counts ++ twice) (items_faults [] h.0 s.items []) middle.0
-
-  few_items : length s.items ≤ 200
-  few_items = not_many item_at 200 s.items (nil_parts counts twice first.0).0
-
-  pub schema_items : (is : List RawItem) (env : List Sym) → is ≡ s.items → env ≡ [] → AreFaultlessItems is env
-  schema_items is env same none =
-      let few = few_items in
-      let all : AreFaultlessItems s.items [] = ([], h.0, first.1, omega (arith, few)) in
-      subst (λ (q : List RawItem × List Sym). AreFaultlessItems q.0 q.1) (λ i. (sym same i, sym none i)) all
-
-  pub schema_concl : (env : List Sym) → env ≡ env_behind s.items [] → IsFaultless s.concl env
-  schema_concl env bound =
-      let few = few_items in
-      let short = env_short s.items [] in
-      let concl : IsFaultless s.concl (env_behind s.items []) = (syms_of (contexts_of s), h.0, 1, middle.1, omega (arith, few, short)) in
-      subst (IsFaultless s.concl) (sym bound) concl
-
--- the first of some premises, and the rest of them
-pub first_premise : (ss : List RawSchema) (i : ℕ) (s : RawSchema) → i < length ss → s ≡ get_or ss i s → AreFaultlessPremises (drop i ss) → IsFaultlessSchema s × AreFaultlessPremises (drop (i + 1) ss)
-first_premise ss i s lt is h =
-    let all = ap (flat_map (premise_faults h.0)) (sym (left_cons ss i s lt is)) ∙ h.1 in
-    let both = nil_parts (premise_faults h.0 s) (flat_map (premise_faults h.0) (drop (i + 1) ss)) all in
-    let here = nil_parts (dangling_faults h.0 (contexts_of s)) (schema_faults false s) both.0 in
-    ((false, here.1), (h.0, both.1))
-
-module _ (r : RawRule) (h : rule_faults r ≡ []) where
-  abbrev count : List TextErr
-  count = too_many (λ (s : RawSchema). s.at) 16 r.premises
+module _ (r : RawRewrite) (h : rewrite_faults r ≡ []) where
+  abbrev many : List TextErr
+  many = too_many pattern_at 15 r.conds
 
   abbrev asked : List TextErr
-  asked = flat_map (premise_faults (syms_of (contexts_of r.concl))) r.premises
+  asked = hole_faults (syms_of (raw_holes r.redex)) (flat_map raw_holes r.conds ++ raw_holes r.contractum)
 
-  abbrev holes : List TextErr
-  holes = hole_faults (syms_of (raw_schema_holes r.concl)) (flat_map raw_schema_holes r.premises)
+  abbrev firsts : List TextErr
+  firsts = each_faults (map (node_faults [] false) r.conds) [] 1
 
-  parts : (count ++ asked ≡ []) × (conclusion_faults r.concl ≡ [])
-  parts =
-      nil_parts (count ++ asked) (conclusion_faults r.concl)
-      (nil_parts (count ++ asked ++ conclusion_faults r.concl) (uses_faults (uses_in_rule r)) (nil_parts (count ++ asked ++ conclusion_faults r.concl ++ uses_faults (uses_in_rule r)) holes h).0).0
+  nodes : rewrite_node_faults r ≡ []
+  nodes =
+      let all = rewrite_node_faults r in let sizes = rewrite_size_faults r in let uses = uses_faults (uses_in_rewrite r) in
+      let a = nil_parts (many ++ all ++ sizes ++ uses ++ asked) (meta_faults r.redex (flat_map uses_in r.conds ++ uses_in r.contractum)) h in
+      let b = nil_parts (many ++ all ++ sizes ++ uses) asked a.0 in
+      let c = nil_parts (many ++ all ++ sizes) uses b.0 in
+      let d = nil_parts (many ++ all) sizes c.0 in
+      (nil_parts many all d.0).1
 
-  pub rule_premises : (ss : List RawSchema) → ss ≡ r.premises → AreFaultlessPremises ss
-  rule_premises ss same = (syms_of (contexts_of r.concl), ap (flat_map (premise_faults (syms_of (contexts_of r.concl)))) same ∙ (nil_parts count asked parts.0).1)
+  last : (firsts ++ node_faults [] true r.redex [] 1 ≡ []) × (node_faults [] false r.contractum [] 1 ≡ [])
+  last = nil_parts (firsts ++ node_faults [] true r.redex [] 1) (node_faults [] false r.contractum [] 1) nodes
 
-  pub rule_concl : IsFaultlessSchema r.concl
-  rule_concl = (true, (nil_parts (frame_faults r.concl) (schema_faults true r.concl) parts.1).1)
+  first : (firsts ≡ []) × (node_faults [] true r.redex [] 1 ≡ [])
+  first = nil_parts firsts (node_faults [] true r.redex [] 1) last.0
+
+  pub rewrite_conds : (ps : List RawPattern) (env : List Sym) → ps ≡ r.conds → env ≡ [] → AreFaultless ps env
+  rewrite_conds ps env same none =
+      let all : AreFaultless r.conds [] = ([], false, 1, first.0, omega arith) in
+      subst (λ (q : List RawPattern × List Sym). AreFaultless q.0 q.1) (λ i. (sym same i, sym none i)) all
+
+  pub rewrite_redex : (env : List Sym) → env ≡ [] → IsFaultless r.redex env
+  rewrite_redex env none = let one : IsFaultless r.redex [] = ([], true, 1, first.1, omega arith) in subst (IsFaultless r.redex) (sym none) one
+
+  pub rewrite_contractum : (env : List Sym) → env ≡ [] → IsFaultless r.contractum env
+  rewrite_contractum env none = let one : IsFaultless r.contractum [] = ([], false, 1, last.1, omega arith) in subst (IsFaultless r.contractum) (sym none) one

@@ -1,23 +1,17 @@
--- What the static rules on rules as they are written have to do with those on the rules that they stand for.
-use Rattle.std.specs.Prelude.{◌≡◌, ◌↔◌, ℕ, List, [], map, not, None, Ok, IsTrue}
-use Rattle.std.specs.List.{list_all}
-use Rattle.mp_schema.specs.Faults.{rule_fault_of}
+-- What the static rules on rewrites as they are written have to do with those on the rewrites that they stand for, and what is read onto theories.
+use Rattle.std.specs.Prelude.{◌≡◌, ◌↔◌, ℕ, List, [], None, Ok}
+use Rattle.mp_schema.specs.Faults.{rewrite_fault_of}
 use Rattle.mp_theory.specs.Tables.{IsTheory, Laws}
-use Rattle.mp_words.specs.declared.fail.TextErr.{TextErr}
-use Rattle.mp_schematext.specs.declared.raw.RawRule.{RawRule}
+use Rattle.mp_patterntext.specs.Unbound.{NoneUnbound}
+use Rattle.mp_theorytext.specs.declared.raw.RawRewrite.{RawRewrite}
 use Rattle.mp_theorytext.specs.Reading.{ReadsTheory}
-use Rattle.mp_theorytext.specs.Statics.{rule_faults}
-use Rattle.mp_theorytext.specs.Unbound.{is_unbound}
-use Rattle.mp_theorytext.specs.Values.{schema_of}
+use Rattle.mp_theorytext.specs.Statics.{rewrite_faults}
+use Rattle.mp_theorytext.specs.Values.{conditions_of, contractum_of, redex_of}
 
--- each variable of the rule is bound: no fault tells of one that isn't
-abbrev pub HasBoundVariables : RawRule → Type 0
-HasBoundVariables r = IsTrue (list_all (λ (f : TextErr). not (is_unbound f.why)) (rule_faults r))
-
--- a rule as it is written, whose variables are bound, has no fault exactly if the rule that it stands for has none; an
+-- a rewrite as it is written, whose variables are bound, has no fault exactly if the rewrite that it stands for has none; an
 -- unbound variable has no level, so what it would stand for doesn't show it
-abbrev pub OneSetOfRules : Type 0
-OneSetOfRules = (r : RawRule) → HasBoundVariables r → (rule_faults r ≡ []) ↔ (rule_fault_of (map schema_of r.premises) (schema_of r.concl) ≡ None)
+abbrev pub OneSetOfRewrites : Type 0
+OneSetOfRewrites = (r : RawRewrite) → NoneUnbound (rewrite_faults r) → (rewrite_faults r ≡ []) ↔ (rewrite_fault_of (conditions_of r) (redex_of r) (contractum_of r) ≡ None)
 
 -- what is read onto a theory is a theory
 abbrev pub ReadTheoriesAreTheories : Type 0

@@ -1,10 +1,5 @@
-pub mod Buildable
+pub mod Grammar
 pub mod Laws
-pub mod Nodes
-pub mod Places
 pub mod Reading
-pub mod Scopes
 pub mod Statics
-pub mod Unbound
-pub mod Uses
 pub mod Values

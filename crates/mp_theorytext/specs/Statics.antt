@@ -1,114 +1,67 @@
--- The static rules of theories as they are written.
-use Rattle.std.specs.Prelude.{ℕ, ◌+◌, ◌++◌, sum, List, [], ◌∷◌, length, map, Bool, true, false, not, nat_lt, nat_eq, slice_get, if◌then◌else◌}
+-- The static rules of rewrites and theories as they are written.
+use Rattle.std.specs.Prelude.{◌++◌, List, [], map, true, false, nat_lt}
 use Rattle.std.specs.List.{flat_map}
-use Rattle.mp_logic.specs.declared.sym.Sym.{Sym}
 use Rattle.mp_term.specs.declared.limits.TheConstants.{MOST_NODES}
-use Rattle.mp_schema.specs.declared.limits.TheConstants.{MOST_ITEMS, MOST_PREMISES}
+use Rattle.mp_schema.specs.declared.limits.TheConstants.{MOST_CONDITIONS}
 use Rattle.mp_words.specs.declared.fail.TextWhy.TheVariants as why
 use Rattle.mp_words.specs.declared.fail.TextErr.{TextErr}
 use Rattle.mp_words.specs.declared.raw.RawName.{RawName}
-use Rattle.mp_words.specs.Faults.{fault_at_any, fault_if, too_many}
+use Rattle.mp_words.specs.Faults.{fault_if, too_many}
+use Rattle.mp_words.specs.Seconds.{second_faults}
 use Rattle.mp_termtext.specs.Statics.{each_faults}
 use Rattle.mp_theory.specs.Tables.{Laws, name_taken}
-use Rattle.mp_schematext.specs.declared.raw.RawPatternBound.{RawPatternBound, RawPatternBound-F, fold-RawPatternBound}
-use Rattle.mp_schematext.specs.declared.raw.RawPattern.{RawPattern, RawPattern-F}
-use Rattle.mp_schematext.specs.declared.raw.RawPattern.TheOpen as layer
-use Rattle.mp_schematext.specs.declared.raw.RawPattern.TheFolds.{fold-RawPattern}
-use Rattle.mp_schematext.specs.declared.raw.RawItem.{RawItem}
-use Rattle.mp_schematext.specs.declared.raw.RawItem.TheVariants as item
-use Rattle.mp_schematext.specs.declared.raw.RawSchema.{RawSchema}
-use Rattle.mp_schematext.specs.declared.raw.RawRule.{RawRule}
-use Rattle.mp_theorytext.specs.Scopes.{syms_of, env_past, env_behind, contexts_of, contexts_past}
-use Rattle.mp_words.specs.Seconds.{second_faults}
-use Rattle.mp_theorytext.specs.Nodes.{argument_of, dangling_faults, node_faults, use_faults}
-use Rattle.mp_theorytext.specs.Uses.{Use, hole_faults, like_faults, raw_schema_holes, uses_in_rule}
+use Rattle.mp_patterntext.specs.declared.raw.RawPattern.{RawPattern}
+use Rattle.mp_patterntext.specs.Scopes.{syms_of, unknown_faults}
+use Rattle.mp_patterntext.specs.Nodes.{node_faults, pattern_at}
+use Rattle.mp_patterntext.specs.Sizes.{raw_pattern_size_of}
+use Rattle.mp_patterntext.specs.Uses.{Use, hole_faults, raw_holes, use_name, uses_faults, uses_in}
+use Rattle.mp_schematext.specs.Statics.{rule_faults}
+use Rattle.mp_theorytext.specs.declared.raw.RawRewrite.{RawRewrite}
+use Rattle.mp_theorytext.specs.declared.raw.RawLaw.{RawLaw}
+use Rattle.mp_theorytext.specs.declared.raw.RawLaw.TheVariants as law
 
--- ## Sizes
+-- ## Rewrites
 
--- the size of one node, where those of the patterns in it are known
-abbrev pub raw_pattern_size_step : RawPattern-F ℕ ℕ → ℕ
-raw_pattern_size_step (layer.Var name at) = 1
-raw_pattern_size_step (layer.Op name params subs at) = 1 + sum subs
-raw_pattern_size_step (layer.Meta name ctxs args at) = 1 + sum args
+-- the pattern has few nodes
+abbrev pub size_faults : RawPattern → List TextErr
+size_faults p = fault_if (nat_lt MOST_NODES (raw_pattern_size_of p)) (pattern_at p) why.TooBig
 
--- the size of one subterm is that of its body
-abbrev pub raw_pattern_size_bound_step : RawPatternBound-F ℕ ℕ → ℕ
-raw_pattern_size_bound_step b = b.body
+-- the second-order variables of a rewrite, in the order of the text
+abbrev pub uses_in_rewrite : RawRewrite → List Use
+uses_in_rewrite r = flat_map uses_in r.conds ++ uses_in r.redex ++ uses_in r.contractum
 
--- the number of variables, operators and second-order variables
-abbrev pub raw_pattern_size_of : RawPattern → ℕ
-raw_pattern_size_of = fold-RawPattern ℕ ℕ raw_pattern_size_step raw_pattern_size_bound_step
+-- each of these second-order variables is one of the redex
+abbrev pub meta_faults : RawPattern → List Use → List TextErr
+meta_faults redex us = unknown_faults why.UnboundMeta (syms_of (map use_name (uses_in redex))) (map use_name us)
 
--- the size of a subterm is that of its body
-abbrev pub raw_bound_size_of : RawPatternBound → ℕ
-raw_bound_size_of = fold-RawPatternBound ℕ ℕ raw_pattern_size_step raw_pattern_size_bound_step
+-- what is asked of the nodes of a rewrite's patterns, before which no context and no variable stands
+abbrev pub rewrite_node_faults : RawRewrite → List TextErr
+rewrite_node_faults r = each_faults (map (node_faults [] false) r.conds) [] 1 ++ node_faults [] true r.redex [] 1 ++ node_faults [] false r.contractum [] 1
 
--- a context isn't counted, and its arguments are
-abbrev pub raw_item_size_of : RawItem → ℕ
-raw_item_size_of (item.Ctx name ctxs args at) = sum (map raw_pattern_size_of args)
-raw_item_size_of (item.Hyp name pattern at) = raw_pattern_size_of pattern
+-- each pattern of a rewrite has few nodes
+abbrev pub rewrite_size_faults : RawRewrite → List TextErr
+rewrite_size_faults r = flat_map size_faults r.conds ++ size_faults r.redex ++ size_faults r.contractum
 
--- the sizes of the items and of the conclusion, together
-abbrev pub raw_schema_size_of : RawSchema → ℕ
-raw_schema_size_of s = sum (map raw_item_size_of s.items) + raw_pattern_size_of s.concl
+-- the faults of a rewrite but that its name is taken
+abbrev pub rewrite_faults : RawRewrite → List TextErr
+rewrite_faults r =
+    too_many pattern_at MOST_CONDITIONS r.conds ++ rewrite_node_faults r ++ rewrite_size_faults r ++ uses_faults (uses_in_rewrite r)
+    ++ hole_faults (syms_of (raw_holes r.redex)) (flat_map raw_holes r.conds ++ raw_holes r.contractum) ++ meta_faults r.redex (flat_map uses_in r.conds ++ uses_in r.contractum)
 
--- ## Items
+-- ## Theories
 
--- the first byte of the item
-abbrev pub item_at : RawItem → ℕ
-item_at (item.Ctx name ctxs args at) = at
-item_at (item.Hyp name pattern at) = at
+-- the name of a law
+abbrev pub law_name : RawLaw → RawName
+law_name (law.Rule r) = r.name
+law_name (law.Rewrite r) = r.name
 
--- the faults of the nodes of an item: a context counts as a node, so its arguments are at depth 2
-abbrev pub item_faults : List Sym → Bool → RawItem → List Sym → List TextErr
-item_faults known in_conclusion (item.Ctx name ctxs args at) env =
-    use_faults known in_conclusion ctxs (map argument_of args) ++ each_faults (map (node_faults known in_conclusion) args) env 2
-item_faults known in_conclusion (item.Hyp name pattern at) env = node_faults known in_conclusion pattern env 1
+-- the faults of a law but that its name is taken
+abbrev pub law_faults : RawLaw → List TextErr
+law_faults (law.Rule r) = rule_faults r
+law_faults (law.Rewrite r) = rewrite_faults r
 
--- the faults of items, each after the contexts and the bound names before it
-abbrev pub items_faults : List Sym → Bool → List RawItem → List Sym → List TextErr
-items_faults known in_conclusion [] env = []
-items_faults known in_conclusion (i ∷ is) env = item_faults known in_conclusion i env ++ items_faults (contexts_past i known) in_conclusion is (env_past i env)
-
--- the faults of named hypotheses that don't stand after exactly one context; so many contexts stand before these items
-abbrev pub misplaced_faults : ℕ → List RawItem → List TextErr
-misplaced_faults before [] = []
-misplaced_faults before (item.Ctx name ctxs args at ∷ is) = misplaced_faults (before + 1) is
-misplaced_faults before (item.Hyp name pattern at ∷ is) = fault_if (not (nat_eq before 1)) at why.MisplacedHyp ++ misplaced_faults before is
-
--- at most two contexts, and the named hypotheses between them where there are two
-abbrev pub frame_faults : RawSchema → List TextErr
-frame_faults s =
-    fault_at_any (λ (c : RawName). c.at) why.TooManyContexts (slice_get (contexts_of s) 2) ++ (if nat_eq (length (contexts_of s)) 2 then misplaced_faults 0 s.items else [])
-
--- ## Schemata, rules and theories
-
--- what is asked of every schema: few items, no context that is an item twice, what is asked of its nodes, and few nodes
-abbrev pub schema_faults : Bool → RawSchema → List TextErr
-schema_faults in_conclusion s =
-    too_many item_at MOST_ITEMS s.items ++ second_faults (λ c. c) why.TwiceContext (contexts_of s) ++ items_faults [] in_conclusion s.items []
-    ++ node_faults (syms_of (contexts_of s)) in_conclusion s.concl (env_behind s.items []) 1 ++ fault_if (nat_lt MOST_NODES (raw_schema_size_of s)) s.at why.TooBig
-
--- the faults of a premise of a rule whose conclusion has these contexts: its own are among them
-abbrev pub premise_faults : List Sym → RawSchema → List TextErr
-premise_faults concl s = dangling_faults concl (contexts_of s) ++ schema_faults false s
-
--- the faults of a conclusion
-abbrev pub conclusion_faults : RawSchema → List TextErr
-conclusion_faults s = frame_faults s ++ schema_faults true s
-
--- each use is like the first one of its name
-abbrev pub uses_faults : List Use → List TextErr
-uses_faults us = flat_map (like_faults us) us
-
--- the faults of a rule but that its name is taken
-abbrev pub rule_faults : RawRule → List TextErr
-rule_faults r =
-    too_many (λ s. s.at) MOST_PREMISES r.premises ++ flat_map (premise_faults (syms_of (contexts_of r.concl))) r.premises ++ conclusion_faults r.concl
-    ++ uses_faults (uses_in_rule r) ++ hole_faults (syms_of (raw_schema_holes r.concl)) (flat_map raw_schema_holes r.premises)
-
--- the static faults of rules that are to be added to this theory: no law of it has their names, no two have one name, and
--- those of each rule
-abbrev pub theory_faults : Laws → List RawRule → List TextErr
-theory_faults t rs =
-    flat_map (λ r. fault_if (name_taken t r.name.name) r.name.at why.Taken) rs ++ second_faults (λ r. r.name) why.Taken rs ++ flat_map rule_faults rs
+-- the static faults of laws that are to be added to this theory: no law of it has their names, no two have one name, and
+-- those of each law
+abbrev pub theory_faults : Laws → List RawLaw → List TextErr
+theory_faults t ls =
+    flat_map (λ l. fault_if (name_taken t (law_name l).name) (law_name l).at why.Taken) ls ++ second_faults law_name why.Taken ls ++ flat_map law_faults ls

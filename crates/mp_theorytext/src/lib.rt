@@ -1,16 +1,14 @@
-//! Theories as texts: their static rules, and the reader.
+//! Theories as texts: rewrites and laws as they are written, their static rules, and the reader.
 #![tactic(auto)]
 
-mod holes;
 mod laws;
 mod making;
-mod nodes;
+mod raw;
 mod reading;
-mod scope;
-mod size;
+mod rewrite;
 mod statics;
-mod uses;
-mod value;
+mod syntax;
 
-pub use laws::{one_set_of_rules, one_text, read_theories_are_theories, some_text};
+pub use laws::{one_set_of_rewrites, one_text, read_theories_are_theories, some_text};
+pub use raw::{RawLaw, RawRewrite};
 pub use reading::read_theory;

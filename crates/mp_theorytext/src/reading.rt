@@ -5,16 +5,16 @@ ghost use Rattle.mp_theorytext.specs.Reading.{ReadsTheory};
 
 use crate::making::build_theory;
 use crate::statics::theory_fault;
+use crate::syntax::parse_theory;
 use mp_names::Names;
-use mp_schematext::parse_theory;
 use mp_theory::Theory;
 use mp_words::{TextFail, lex_text, stopped};
 use std::alloc::Global;
 
-/// Reads rules that are all of the text, and adds them to the theory, in the order of the text. Bad has the one fault of
+/// Reads rules and rewrites that are all of the text, and adds them to the theory, in the order of the text. Bad has the one fault of
 /// the text: the first lexical one; else Syntax, at the token at which the grammar is stuck, or at the text's length where
 /// it ends too early; else the least static one, which is Taken, TooMany, TooDeep, TooBig, UnboundVar, DanglingContext,
-/// TwiceContext, TooManyContexts, MisplacedHyp, NotAPattern, BadUse or UnboundParam. Earlier names keep their numbers, and
+/// TwiceContext, TooManyContexts, MisplacedHyp, NotAPattern, BadUse, UnboundParam or UnboundMeta. Earlier names keep their numbers, and
 /// at most as many are added as the text has bytes, also where the text is refused.
 /// The names that are held and the bytes are together fewer than 2^32 - 1, and so are the laws that are held and the bytes.
 pub fn read_theory(

@@ -1,311 +1,71 @@
-ghost use Rattle.std.specs.Prelude.{◌≡◌, ◌++◌, [], ℕ, IfOk, OnOk, length, nat_eq, nat_lt, slice_get, if◌then◌else◌};
+ghost use Rattle.std.specs.Prelude.{◌≡◌, IfOk};
 ghost use Rattle.std.specs.List.{flat_map};
-ghost use Rattle.mp_logic.specs.Trees.{counted};
 ghost use Rattle.mp_theory.specs.Tables.{name_taken};
 ghost use Rattle.mp_words.specs.declared.fail.TextWhy.TheVariants as why;
-ghost use Rattle.mp_words.specs.Faults.{fault_at_any, fault_if, least, least_from, too_many};
-ghost use Rattle.mp_theorytext.specs.Scopes.{context_in, contexts_of, contexts_past, env_behind, env_past, syms_of};
-ghost use Rattle.mp_theorytext.specs.Statics.{conclusion_faults, frame_faults, item_at, item_faults, items_faults, misplaced_faults, premise_faults, rule_faults, schema_faults, theory_faults};
-ghost use Rattle.mp_theorytext.specs.Uses.{hole_faults, raw_schema_holes};
+ghost use Rattle.mp_words.specs.Faults.{fault_if, least, least_from};
+ghost use Rattle.mp_theorytext.specs.Statics.{law_faults, law_name, theory_faults};
 
-use crate::holes::{check_holes, gather_schema, gather_schemata};
-use crate::nodes::{check_argument_nodes, check_nodes, check_use};
-use crate::scope::{check_apart, check_known};
-use crate::size::schema_size;
-use crate::uses::check_rule_uses;
-use mp_logic::{List, NoMemory, Sym};
-use mp_schema::limits::{MOST_ITEMS, MOST_PREMISES};
-use mp_schematext::{RawItem, RawRule, RawSchema};
-use mp_term::limits::MOST_NODES;
+use crate::RawLaw;
+use crate::rewrite::check_rewrite;
+use mp_logic::{List, NoMemory};
+use mp_schematext::check_rule;
 use mp_theory::Theory;
-use mp_words::{RawName, TextErr, TextWhy, check_second, sooner_if, sooner_of};
+use mp_words::{Named, TextErr, TextWhy, check_second, sooner_if};
 use std::alloc::Global;
 
-/// Appends the context, if the item is one.
-fn push_context(known: &mut Vec<RawName>, item: &RawItem) -> Result<(), NoMemory>
-    ensures { OnOk result (known.new.items ≡ known.old.items ++ context_in item.now) }
-{
-    if let RawItem::Ctx { name, .. } = item
-        && known.push(*name).is_err()
-    {
-        return Err(NoMemory);
-    }
-    Ok(())
-}
-
-/// Appends the name of the hypothesis, if the item is one.
-fn push_name(env: &mut Vec<Sym>, item: &RawItem) -> Result<(), NoMemory>
-    ensures { OnOk result (env.new.items ≡ env_past item.now env.old.items) }
-{
-    if let RawItem::Hyp { name, .. } = item
-        && env.push(*name).is_err()
-    {
-        return Err(NoMemory);
-    }
-    Ok(())
-}
-
-/// The contexts among the items of a schema, in order.
-fn contexts(alloc: Global, raw: &RawSchema) -> Result<Vec<RawName>, NoMemory>
-    ensures { IfOk result (λ names. names.items ≡ contexts_of raw.now) }
-{
-    let mut known = Vec::new(alloc);
-    for item in raw.items.as_slice() {
-        push_context(&mut known, item)?;
-    }
-    Ok(known)
-}
-
-/// The soonest of the fault that is held and those of the nodes of an item.
-#[tactic(auto, using(mp_words::proofs::Soonest::least_from_append))]
-fn check_item(
-    alloc: Global,
-    item: &RawItem,
-    known: &[RawName],
-    in_conclusion: bool,
-    env: &mut Vec<Sym>,
-    held: Option<TextErr>,
-) -> Result<Option<TextErr>, NoMemory>
-    ensures fault { IfOk result (λ found. found ≡ least_from held (item_faults (syms_of known.now) in_conclusion item.now env.old.items)) }
-    ensures env { OnOk result (env.new.items ≡ env.old.items) }
-{
-    match item {
-        RawItem::Ctx { ctxs, args, .. } => {
-            let args = args.as_slice();
-            let held = check_use(alloc, known, in_conclusion, ctxs.as_slice(), args, held)?;
-            let found = check_argument_nodes(alloc, args, known, in_conclusion, env, 2, held)?;
-            Ok(found)
-        }
-        RawItem::Hyp { pattern, .. } => {
-            let found = check_nodes(alloc, pattern, known, in_conclusion, env, 1, held)?;
-            Ok(found)
-        }
-    }
-}
-
-/// The soonest of the fault that is held and those of the nodes of items, each behind the contexts and the bound names
-/// before it. The names of all of them are bound behind them.
-fn check_items(
-    alloc: Global,
-    items: &[RawItem],
-    in_conclusion: bool,
-    env: &mut Vec<Sym>,
-    held: Option<TextErr>,
-) -> Result<Option<TextErr>, NoMemory>
-    ensures fault { IfOk result (λ found. found ≡ least_from held (items_faults [] in_conclusion items.now env.old.items)) }
-    ensures env { OnOk result (env.new.items ≡ env_behind items.now env.old.items) }
-{
-    let mut known = Vec::new(alloc);
-    let mut held = held;
-    for item in items {
-        held = check_item(alloc, item, known.as_slice(), in_conclusion, env, held)?;
-        push_context(&mut known, item)?;
-        push_name(env, item)?;
-    }
-    Ok(held)
-}
-
-fn check_item_count(held: Option<TextErr>, items: &[RawItem]) -> Option<TextErr>
-    ensures { result ≡ least_from held (too_many item_at 200 items.now) }
-{
-    match items.get(MOST_ITEMS as usize) {
-        Some(RawItem::Ctx { at, .. }) => sooner_of(held, *at, TextWhy::TooMany),
-        Some(RawItem::Hyp { at, .. }) => sooner_of(held, *at, TextWhy::TooMany),
-        None => held,
-    }
-}
-
-/// The sooner one of the fault that is held and TooBig, for a schema of so many nodes.
-fn check_size(held: Option<TextErr>, size: u64, at: u32) -> Option<TextErr>
-    ensures { (n : ℕ) → counted n ≡ size → result ≡ least_from held (fault_if (nat_lt 20000 n) at why.TooBig) }
-{
-    if size > MOST_NODES {
-        sooner_of(held, at, TextWhy::TooBig)
-    } else {
-        held
-    }
-}
-
-/// The soonest of the fault that is held and those of a schema of a rule.
-fn check_schema(
-    alloc: Global,
-    raw: &RawSchema,
-    in_conclusion: bool,
-    held: Option<TextErr>,
-) -> Result<Option<TextErr>, NoMemory>
-    ensures { IfOk result (λ found. found ≡ least_from held (schema_faults in_conclusion raw.now)) }
-{
-    let items = raw.items.as_slice();
-    let held = check_item_count(held, items);
-    let known = contexts(alloc, raw)?;
-    let held = check_apart(held, known.as_slice(), TextWhy::TwiceContext);
-    let mut env = Vec::new(alloc);
-    let held = check_items(alloc, items, in_conclusion, &mut env, held)?;
-    let concl = &raw.concl;
-    let held = check_nodes(
-        alloc,
-        concl,
-        known.as_slice(),
-        in_conclusion,
-        &mut env,
-        1,
-        held,
-    )?;
-    Ok(check_size(held, schema_size(raw), raw.at))
-}
-
-/// The soonest of the fault that is held and those of a premise of a rule whose conclusion has these contexts.
-fn check_premise(
-    alloc: Global,
-    raw: &RawSchema,
-    concl: &[RawName],
-    held: Option<TextErr>,
-) -> Result<Option<TextErr>, NoMemory>
-    ensures { IfOk result (λ found. found ≡ least_from held (premise_faults (syms_of concl.now) raw.now)) }
-{
-    let known = contexts(alloc, raw)?;
-    let held = check_known(held, concl, known.as_slice());
-    let found = check_schema(alloc, raw, false, held)?;
-    Ok(found)
-}
-
-fn check_premises(
-    alloc: Global,
-    premises: &[RawSchema],
-    concl: &[RawName],
-    held: Option<TextErr>,
-) -> Result<Option<TextErr>, NoMemory>
-    ensures { IfOk result (λ found. found ≡ least_from held (flat_map (premise_faults (syms_of concl.now)) premises.now)) }
-{
-    let mut held = held;
-    for premise in premises {
-        held = check_premise(alloc, premise, concl, held)?;
-    }
-    Ok(held)
-}
-
-/// The soonest of the fault that is held and those of named hypotheses that don't stand behind exactly one context.
-fn check_between(held: Option<TextErr>, items: &[RawItem]) -> Option<TextErr>
-    ensures { result ≡ least_from held (misplaced_faults 0 items.now) }
-{
-    let mut held = held;
-    let mut before = 0u64;
-    for item in items {
-        match item {
-            RawItem::Ctx { .. } => before += 1,
-            RawItem::Hyp { at, .. } => {
-                held = sooner_if(held, before != 1, *at, TextWhy::MisplacedHyp);
-            }
-        }
-    }
-    held
-}
-
-fn check_third(held: Option<TextErr>, contexts: &[RawName]) -> Option<TextErr>
-    ensures { result ≡ least_from held (fault_at_any (λ c. c.at) why.TooManyContexts (slice_get contexts.now 2)) }
-{
-    match contexts.get(2) {
-        Some(third) => sooner_of(held, third.at, TextWhy::TooManyContexts),
-        None => held,
-    }
-}
-
-/// The soonest of the fault that is held and those of a conclusion that has three contexts, or two with a named hypothesis
-/// that doesn't stand between them.
-#[tactic(auto, using(mp_words::proofs::Soonest::least_from_append))]
-fn check_frame(held: Option<TextErr>, raw: &RawSchema, contexts: &[RawName]) -> Option<TextErr>
-    requires { contexts.now ≡ contexts_of raw.now }
-    ensures { result ≡ least_from held (frame_faults raw.now) }
-{
-    let held = check_third(held, contexts);
-    if contexts.len() == 2 {
-        check_between(held, raw.items.as_slice())
-    } else {
-        held
-    }
-}
-
-/// The soonest of the fault that is held and those of the holes in a rule.
-fn check_rule_holes(
-    alloc: Global,
-    raw: &RawRule,
-    held: Option<TextErr>,
-) -> Result<Option<TextErr>, NoMemory>
-    ensures { IfOk result (λ found. found ≡ least_from held (hole_faults (syms_of (raw_schema_holes raw.now.concl)) (flat_map raw_schema_holes raw.now.premises))) }
-{
-    let mut known = List::new(alloc);
-    gather_schema(&raw.concl, &mut known)?;
-    let mut asked = List::new(alloc);
-    gather_schemata(raw.premises.as_slice(), &mut asked)?;
-    let found = check_holes(alloc, held, known.as_slice(), asked.as_slice())?;
-    Ok(found)
-}
-
-fn check_premise_count(held: Option<TextErr>, premises: &List<RawSchema>) -> Option<TextErr>
-    ensures { result ≡ least_from held (too_many (λ s. s.at) 16 premises.now) }
-{
-    match premises.get(MOST_PREMISES) {
-        Some(premise) => sooner_of(held, premise.at, TextWhy::TooMany),
-        None => held,
-    }
-}
-
-/// The soonest of the fault that is held and those of a rule, but that its name is taken.
-fn check_rule(
-    alloc: Global,
-    raw: &RawRule,
-    held: Option<TextErr>,
-) -> Result<Option<TextErr>, NoMemory>
-    ensures { IfOk result (λ found. found ≡ least_from held (rule_faults raw.now)) }
-{
-    let concl = contexts(alloc, &raw.concl)?;
-    let held = check_premise_count(held, &raw.premises);
-    let held = check_premises(alloc, raw.premises.as_slice(), concl.as_slice(), held)?;
-    let held = check_frame(held, &raw.concl, concl.as_slice());
-    let held = check_schema(alloc, &raw.concl, true, held)?;
-    let held = check_rule_uses(alloc, raw, held)?;
-    let found = check_rule_holes(alloc, raw, held)?;
-    Ok(found)
-}
-
 /// The soonest of the fault that is held and those of names that a law of the theory has.
-fn check_free(held: Option<TextErr>, theory: &Theory, raws: &[RawRule]) -> Option<TextErr>
-    ensures { result ≡ least_from held (flat_map (λ r. fault_if (name_taken theory.now r.name.name) r.name.at why.Taken) raws.now) }
+fn check_free(held: Option<TextErr>, theory: &Theory, raws: &[RawLaw]) -> Option<TextErr>
+    ensures { result ≡ least_from held (flat_map (λ l. fault_if (name_taken theory.now (law_name l).name) (law_name l).at why.Taken) raws.now) }
 {
     let mut held = held;
     for raw in raws {
-        let taken = theory.is_taken(raw.name.name);
-        held = sooner_if(held, taken, raw.name.at, TextWhy::Taken);
+        let name = raw.named();
+        let taken = theory.is_taken(name.name);
+        held = sooner_if(held, taken, name.at, TextWhy::Taken);
     }
     held
 }
 
-fn check_rules(
+/// The soonest of the fault that is held and those of a law, but that its name is taken.
+fn check_law(
     alloc: Global,
-    raws: &[RawRule],
+    raw: &RawLaw,
     held: Option<TextErr>,
 ) -> Result<Option<TextErr>, NoMemory>
-    ensures { IfOk result (λ found. found ≡ least_from held (flat_map rule_faults raws.now)) }
+    ensures { IfOk result (λ found. found ≡ least_from held (law_faults raw.now)) }
+{
+    match raw {
+        RawLaw::Rule(rule) => check_rule(alloc, rule, held),
+        RawLaw::Rewrite(rewrite) => check_rewrite(alloc, rewrite, held),
+    }
+}
+
+fn check_laws(
+    alloc: Global,
+    raws: &[RawLaw],
+    held: Option<TextErr>,
+) -> Result<Option<TextErr>, NoMemory>
+    ensures { IfOk result (λ found. found ≡ least_from held (flat_map law_faults raws.now)) }
 {
     let mut held = held;
     for raw in raws {
-        held = check_rule(alloc, raw, held)?;
+        held = check_law(alloc, raw, held)?;
     }
     Ok(held)
 }
 
-/// The least static fault of rules that are to be added to the theory. None exactly where there is none.
+/// The least static fault of laws that are to be added to the theory. None exactly where there is none.
 #[tactic(auto, using(mp_words::proofs::Soonest::least_from_append))]
 pub(crate) fn theory_fault(
     alloc: Global,
     theory: &Theory,
-    raws: &List<RawRule>,
+    raws: &List<RawLaw>,
 ) -> Result<Option<TextErr>, NoMemory>
     ensures { IfOk result (λ found. found ≡ least (theory_faults theory.now raws.now)) }
 {
     let raws = raws.as_slice();
     let held = check_free(None, theory, raws);
     let held = check_second(alloc, raws, TextWhy::Taken, held)?;
-    let found = check_rules(alloc, raws, held)?;
+    let found = check_laws(alloc, raws, held)?;
     Ok(found)
 }

@@ -1,42 +1,18 @@
 -- The one text of a step and of a proof tree.
-use Rattle.std.specs.Prelude.{ℕ, ◌+◌, ◌++◌, List, [], ◌∷◌, map, Some, None, codes, slice_get}
-use Rattle.std.specs.Fmt.{decimal}
+use Rattle.std.specs.Prelude.{ℕ, ◌++◌, List, [], ◌∷◌, Some, None, codes, slice_get}
 use Rattle.std.specs.declared.option.Option.{Option}
 use Rattle.mp_logic.specs.declared.tree.Tree.{Tree, Tree-F}
 use Rattle.mp_logic.specs.declared.tree.Tree.TheOpen as layer
 use Rattle.mp_logic.specs.declared.tree.Tree.TheFolds.{fold-Tree}
-use Rattle.mp_names.specs.Table.{text_of}
 use Rattle.mp_term.specs.declared.sequent.Sequent.{Sequent}
-use Rattle.mp_termtext.specs.Printing.{binders_text, list_text, sequent_text, term_text}
-use Rattle.mp_theory.specs.declared.just.Given.{Given}
+use Rattle.mp_steptext.specs.Printing.{just_text}
+use Rattle.mp_termtext.specs.Printing.{sequent_text}
 use Rattle.mp_theory.specs.declared.just.Just.{Just}
-use Rattle.mp_theory.specs.declared.just.Just.TheVariants.{Rule}
-use Rattle.mp_theory.specs.declared.rule.Rule.{Rule as RuleOf}
-use Rattle.mp_theory.specs.Tables.{Laws, rule_at}
+use Rattle.mp_theory.specs.Tables.{Laws}
 
--- a rule's name; nothing if there is no such rule
-abbrev pub rule_text : List (List ℕ) → Option RuleOf → List ℕ
-rule_text names (Some rule) = text_of names rule.name.0
-rule_text names None = []
-
--- where the first context ends: the number of the first hypothesis after it, counted from 1; nothing if a step doesn't say it
-abbrev pub place_text : Option ℕ → List ℕ
-place_text None = []
-place_text (Some first) = codes " at " ++ decimal (first + 1)
-
--- a given term after its need's name and its binders; 200 variables are in scope before these
-abbrev pub given_text : List (List ℕ) → Given → List ℕ
-given_text names given =
-    text_of names given.name.0 ++ codes " := " ++ binders_text 200 given.arity ++ term_text names given.body (200 + given.arity)
-
--- the given terms in their order; nothing if there are none
-abbrev pub all_given_text : List (List ℕ) → List Given → List ℕ
-all_given_text names given = list_text (codes " with [") (codes "]") (map (given_text names) given)
-
--- a step by a justification: `rule` and the rule's name, where the first context ends, and what is given
+-- a step by a justification; nothing if there is none
 abbrev pub step_text : List (List ℕ) → Laws → Option Just → List ℕ
-step_text names theory (Some (Rule place first given)) =
-    codes "rule " ++ rule_text names (rule_at theory place) ++ place_text first ++ all_given_text names given
+step_text names theory (Some just) = just_text names theory just
 step_text names theory None = []
 
 -- a bar, the sequent and the line's end

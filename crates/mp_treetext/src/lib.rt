@@ -2,6 +2,5 @@
 #![tactic(auto)]
 
 mod print;
-mod step;
 
 pub use print::{print_tree, push_tree};

@@ -1,9 +1,9 @@
-ghost use Rattle.std.specs.Prelude.{◌≡◌, ◌++◌, [], OnOk, IfOk};
-ghost use Rattle.mp_treetext.specs.Trees.{tree_text, goal_text};
+ghost use Rattle.std.specs.Prelude.{◌≡◌, ◌++◌, [], slice_get, OnOk, IfOk};
+ghost use Rattle.mp_treetext.specs.Trees.{goal_text, step_text, tree_text};
 
-use crate::step::push_step;
-use mp_logic::{List, NoMemory, Text, Tree};
+use mp_logic::{JustId, List, NoMemory, Text, Tree};
 use mp_names::Names;
+use mp_steptext::push_just;
 use mp_term::Sequent;
 use mp_termtext::{push_bytes, push_sequent};
 use mp_theory::{Just, Theory};
@@ -78,4 +78,20 @@ fn push_goal(out: &mut Vec<u8>, names: &Names, goal: &Sequent) -> Result<(), NoM
     push_bytes(out, b" | ")?;
     push_sequent(out, names, goal)?;
     push_bytes(out, b"\n")
+}
+
+/// Appends the text of a step by the justification of this number.
+fn push_step(
+    out: &mut Vec<u8>,
+    names: &Names,
+    theory: &Theory,
+    justs: &List<Just>,
+    just: JustId,
+) -> Result<(), NoMemory>
+    ensures { OnOk result (out.new.items ≡ out.old.items ++ step_text names.now theory.now (slice_get justs.now just.0)) }
+{
+    match justs.get(just.0 as u64) {
+        Some(just) => push_just(out, names, theory, just),
+        None => Ok(()),
+    }
 }

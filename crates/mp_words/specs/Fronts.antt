@@ -37,19 +37,35 @@ mark_code mark.Bar = 19
 -- a number for each word of a grammar, to tell them apart
 abbrev pub keyword_code : Keyword → ℕ
 keyword_code keyword.Rule = 0
-keyword_code keyword.Goal = 1
-keyword_code keyword.Fuel = 2
-keyword_code keyword.By = 3
-keyword_code keyword.Then = 4
-keyword_code keyword.At = 5
-keyword_code keyword.With = 6
-keyword_code keyword.Id = 7
-keyword_code keyword.Claim = 8
-keyword_code keyword.Send = 9
-keyword_code keyword.Again = 10
-keyword_code keyword.Die = 11
-keyword_code keyword.Lose = 12
-keyword_code keyword.Reissue = 13
+keyword_code keyword.Rewrite = 1
+keyword_code keyword.Goal = 2
+keyword_code keyword.Fuel = 3
+keyword_code keyword.By = 4
+keyword_code keyword.Then = 5
+keyword_code keyword.ThenL = 6
+keyword_code keyword.OrElse = 7
+keyword_code keyword.Try = 8
+keyword_code keyword.Repeat = 9
+keyword_code keyword.Progress = 10
+keyword_code keyword.Complete = 11
+keyword_code keyword.Race = 12
+keyword_code keyword.Fail = 13
+keyword_code keyword.Id = 14
+keyword_code keyword.Rw = 15
+keyword_code keyword.Concl = 16
+keyword_code keyword.Hyp = 17
+keyword_code keyword.At = 18
+keyword_code keyword.With = 19
+keyword_code keyword.Closed = 20
+keyword_code keyword.Open = 21
+keyword_code keyword.Failed = 22
+keyword_code keyword.Strategy = 23
+keyword_code keyword.Claim = 24
+keyword_code keyword.Send = 25
+keyword_code keyword.Again = 26
+keyword_code keyword.Die = 27
+keyword_code keyword.Lose = 28
+keyword_code keyword.Reissue = 29
 
 -- what is written is this mark
 abbrev pub marks : Mark → What → Bool

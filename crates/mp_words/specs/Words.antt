@@ -12,6 +12,7 @@ use Rattle.mp_words.specs.declared.word.Mark.{Mark}
 use Rattle.mp_words.specs.declared.word.Mark.TheVariants as mark
 use Rattle.mp_words.specs.declared.word.Keyword.{Keyword}
 use Rattle.mp_words.specs.declared.word.Keyword.TheVariants as keyword
+use Rattle.mp_words.specs.declared.spelling.Spelling.{Spelling}
 use Rattle.mp_words.specs.declared.word.What.{What}
 use Rattle.mp_words.specs.declared.word.What.TheVariants as what
 use Rattle.mp_words.specs.declared.word.Word.{Word}
@@ -34,12 +35,44 @@ abbrev pub spelled : {A : Type 0} → List (List ℕ × A) → List ℕ → Opti
 spelled [] text = None
 spelled ((spelling, a) ∷ more) text = if is_same text spelling then Some a else spelled more text
 
+-- a row of the table that is searched, as a spelling and what it spells
+abbrev pub row_of : Spelling → List ℕ × Keyword
+row_of s = (s.0.now, s.1)
+
 -- the names that some grammar reads as words of its own
 abbrev pub keywords : List (List ℕ × Keyword)
 keywords =
-    (codes "rule", keyword.Rule) ∷ (codes "goal", keyword.Goal) ∷ (codes "fuel", keyword.Fuel) ∷ (codes "by", keyword.By)
-    ∷ (codes "then", keyword.Then) ∷ (codes "at", keyword.At) ∷ (codes "with", keyword.With) ∷ (codes "id", keyword.Id) ∷ (codes "claim", keyword.Claim) ∷ (codes "send", keyword.Send) ∷ (codes "again", keyword.Again)
-    ∷ (codes "die", keyword.Die) ∷ (codes "lose", keyword.Lose) ∷ (codes "reissue", keyword.Reissue) ∷ []
+    (codes "rule", keyword.Rule)
+    ∷ (codes "rewrite", keyword.Rewrite)
+    ∷ (codes "goal", keyword.Goal)
+    ∷ (codes "fuel", keyword.Fuel)
+    ∷ (codes "by", keyword.By)
+    ∷ (codes "then", keyword.Then)
+    ∷ (codes "thenl", keyword.ThenL)
+    ∷ (codes "orelse", keyword.OrElse)
+    ∷ (codes "try", keyword.Try)
+    ∷ (codes "repeat", keyword.Repeat)
+    ∷ (codes "progress", keyword.Progress)
+    ∷ (codes "complete", keyword.Complete)
+    ∷ (codes "race", keyword.Race)
+    ∷ (codes "fail", keyword.Fail)
+    ∷ (codes "id", keyword.Id)
+    ∷ (codes "rw", keyword.Rw)
+    ∷ (codes "concl", keyword.Concl)
+    ∷ (codes "hyp", keyword.Hyp)
+    ∷ (codes "at", keyword.At)
+    ∷ (codes "with", keyword.With)
+    ∷ (codes "closed", keyword.Closed)
+    ∷ (codes "open", keyword.Open)
+    ∷ (codes "failed", keyword.Failed)
+    ∷ (codes "strategy", keyword.Strategy)
+    ∷ (codes "claim", keyword.Claim)
+    ∷ (codes "send", keyword.Send)
+    ∷ (codes "again", keyword.Again)
+    ∷ (codes "die", keyword.Die)
+    ∷ (codes "lose", keyword.Lose)
+    ∷ (codes "reissue", keyword.Reissue)
+    ∷ []
 
 -- the word of a grammar that a name spells
 abbrev pub keyword_of : List ℕ → Option Keyword

@@ -67,22 +67,7 @@ fn code_of_mark(mark: Mark) -> u8
 fn code_of_keyword(keyword: Keyword) -> u8
     ensures { result ≡ keyword_code keyword }
 {
-    match keyword {
-        Keyword::Rule => 0,
-        Keyword::Goal => 1,
-        Keyword::Fuel => 2,
-        Keyword::By => 3,
-        Keyword::Then => 4,
-        Keyword::At => 5,
-        Keyword::With => 6,
-        Keyword::Id => 7,
-        Keyword::Claim => 8,
-        Keyword::Send => 9,
-        Keyword::Again => 10,
-        Keyword::Die => 11,
-        Keyword::Lose => 12,
-        Keyword::Reissue => 13,
-    }
+    keyword as u8
 }
 
 /// Whether this mark stands at the front.

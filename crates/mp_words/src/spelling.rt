@@ -1,95 +1,94 @@
-ghost use Rattle.std.specs.Prelude.{◌≡◌, ◌++◌, ◌∷◌, ◌≤◌, ◌<◌, ◌^◌, OnOk, IfOk, min, length, true, false, drop};
+ghost use Rattle.std.specs.Prelude.{◌≡◌, ◌++◌, ◌∷◌, ◌≤◌, ◌<◌, ◌^◌, OnOk, IfOk, min, length, true, false, drop, map};
 ghost use Rattle.std.specs.List.{list_all};
 ghost use Rattle.mp_lex.specs.Bytes.{is_digit};
 ghost use Rattle.mp_lex.specs.Forms.{is_positive, is_number, number_of_digits};
-ghost use Rattle.mp_words.specs.Words.{content_of, integer_of, keyword_of, mark_of, minus, numbered_of, unescaped};
+ghost use Rattle.mp_words.specs.Words.{content_of, integer_of, keyword_of, mark_of, minus, numbered_of, row_of, spelled, unescaped};
 
 use crate::{Keyword, Mark};
 use mp_lex::{digit, digits_value};
 use mp_logic::NoMemory;
 use std::alloc::Global;
 
-/// The word of a grammar that the name spells.
+/// A name, and the word of the grammars that it spells.
+struct Spelling(&'static [u8], Keyword);
+
+static KEYWORDS: [Spelling; 30] = [
+    Spelling(b"rule", Keyword::Rule),
+    Spelling(b"rewrite", Keyword::Rewrite),
+    Spelling(b"goal", Keyword::Goal),
+    Spelling(b"fuel", Keyword::Fuel),
+    Spelling(b"by", Keyword::By),
+    Spelling(b"then", Keyword::Then),
+    Spelling(b"thenl", Keyword::ThenL),
+    Spelling(b"orelse", Keyword::OrElse),
+    Spelling(b"try", Keyword::Try),
+    Spelling(b"repeat", Keyword::Repeat),
+    Spelling(b"progress", Keyword::Progress),
+    Spelling(b"complete", Keyword::Complete),
+    Spelling(b"race", Keyword::Race),
+    Spelling(b"fail", Keyword::Fail),
+    Spelling(b"id", Keyword::Id),
+    Spelling(b"rw", Keyword::Rw),
+    Spelling(b"concl", Keyword::Concl),
+    Spelling(b"hyp", Keyword::Hyp),
+    Spelling(b"at", Keyword::At),
+    Spelling(b"with", Keyword::With),
+    Spelling(b"closed", Keyword::Closed),
+    Spelling(b"open", Keyword::Open),
+    Spelling(b"failed", Keyword::Failed),
+    Spelling(b"strategy", Keyword::Strategy),
+    Spelling(b"claim", Keyword::Claim),
+    Spelling(b"send", Keyword::Send),
+    Spelling(b"again", Keyword::Again),
+    Spelling(b"die", Keyword::Die),
+    Spelling(b"lose", Keyword::Lose),
+    Spelling(b"reissue", Keyword::Reissue),
+];
+
+/// The word of the grammars that the name spells.
 pub(crate) fn keyword(text: &[u8]) -> Option<Keyword>
     ensures { result ≡ keyword_of text.now }
 {
-    if text == b"rule".as_slice() {
-        Some(Keyword::Rule)
-    } else if text == b"goal".as_slice() {
-        Some(Keyword::Goal)
-    } else if text == b"fuel".as_slice() {
-        Some(Keyword::Fuel)
-    } else if text == b"by".as_slice() {
-        Some(Keyword::By)
-    } else if text == b"then".as_slice() {
-        Some(Keyword::Then)
-    } else if text == b"at".as_slice() {
-        Some(Keyword::At)
-    } else if text == b"with".as_slice() {
-        Some(Keyword::With)
-    } else if text == b"id".as_slice() {
-        Some(Keyword::Id)
-    } else if text == b"claim".as_slice() {
-        Some(Keyword::Claim)
-    } else if text == b"send".as_slice() {
-        Some(Keyword::Send)
-    } else if text == b"again".as_slice() {
-        Some(Keyword::Again)
-    } else if text == b"die".as_slice() {
-        Some(Keyword::Die)
-    } else if text == b"lose".as_slice() {
-        Some(Keyword::Lose)
-    } else if text == b"reissue".as_slice() {
-        Some(Keyword::Reissue)
-    } else {
-        None
+    spelled(&KEYWORDS, text)
+}
+
+/// The word that the name spells by this table. Of a spelling of another length only the length is looked at.
+fn spelled(table: &[Spelling], text: &[u8]) -> Option<Keyword>
+    ensures { result ≡ spelled (map row_of table.now) text.now }
+{
+    for spelling in table {
+        if text == spelling.0 {
+            return Some(spelling.1);
+        }
     }
+    None
 }
 
 /// The mark with this text.
 pub(crate) fn mark(text: &[u8]) -> Mark
     ensures { result ≡ mark_of text.now }
 {
-    if text == b"{".as_slice() {
-        Mark::OpenBrace
-    } else if text == b"}".as_slice() {
-        Mark::CloseBrace
-    } else if text == b"[".as_slice() {
-        Mark::OpenBracket
-    } else if text == b"]".as_slice() {
-        Mark::CloseBracket
-    } else if text == b"(".as_slice() {
-        Mark::OpenParenthesis
-    } else if text == b")".as_slice() {
-        Mark::CloseParenthesis
-    } else if text == b"<".as_slice() {
-        Mark::Less
-    } else if text == b">".as_slice() {
-        Mark::Greater
-    } else if text == b">-".as_slice() {
-        Mark::Turnstile
-    } else if text == b"==>".as_slice() {
-        Mark::Yields
-    } else if text == b"-->".as_slice() {
-        Mark::Provided
-    } else if text == b"<->".as_slice() {
-        Mark::Rewrites
-    } else if text == b"&".as_slice() {
-        Mark::And
-    } else if text == b",".as_slice() {
-        Mark::Comma
-    } else if text == b";".as_slice() {
-        Mark::Semicolon
-    } else if text == b":".as_slice() {
-        Mark::Colon
-    } else if text == b":=".as_slice() {
-        Mark::Becomes
-    } else if text == b".".as_slice() {
-        Mark::Dot
-    } else if text == b"@".as_slice() {
-        Mark::At
-    } else {
-        Mark::Bar
+    match text {
+        [b'{'] => Mark::OpenBrace,
+        [b'}'] => Mark::CloseBrace,
+        [b'['] => Mark::OpenBracket,
+        [b']'] => Mark::CloseBracket,
+        [b'('] => Mark::OpenParenthesis,
+        [b')'] => Mark::CloseParenthesis,
+        [b'<'] => Mark::Less,
+        [b'>'] => Mark::Greater,
+        [b'&'] => Mark::And,
+        [b','] => Mark::Comma,
+        [b';'] => Mark::Semicolon,
+        [b':'] => Mark::Colon,
+        [b'.'] => Mark::Dot,
+        [b'@'] => Mark::At,
+        [b'>', b'-'] => Mark::Turnstile,
+        [b':', b'='] => Mark::Becomes,
+        [b'=', b'=', b'>'] => Mark::Yields,
+        [b'-', b'-', b'>'] => Mark::Provided,
+        [b'<', b'-', b'>'] => Mark::Rewrites,
+        _ => Mark::Bar,
     }
 }
 

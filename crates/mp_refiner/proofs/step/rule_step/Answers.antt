@@ -14,8 +14,7 @@ give_all-requires-clause-usable c =
     let r = c.args.rule.now in
     let g = c.args.given.now in
     let q = c.args.goal.now in
-    let a = asked r c.args.first g q c.requires.allowed c.requires.good in
-    usable_needs r c.args.first g q c.requires.rule c.requires.allowed a c.in-Some.inst
+    usable_needs r c.args.first g q c.requires.rule c.requires.allowed c.requires.good c.in-Some.inst
     (match_made r.concl c.args.first q c.in-Ok.matched c.in-Some.inst c.in-Some.is c.in-Ok.ensures.instance c.in-Ok.ensures.covers c.in-Ok.ensures.spread) c.as_slice.result.now c.as_slice.ensures
 
 pub give_all-requires-clause-new : goal.give_all-requires-clause-new
@@ -23,8 +22,7 @@ give_all-requires-clause-new c =
     let r = c.args.rule.now in
     let g = c.args.given.now in
     let q = c.args.goal.now in
-    let a = asked r c.args.first g q c.requires.allowed c.requires.good in
-    new_needs r c.args.first g q c.requires.rule c.requires.allowed a c.in-Some.inst
+    new_needs r c.args.first g q c.requires.rule c.requires.allowed c.requires.good c.in-Some.inst
     (match_made r.concl c.args.first q c.in-Ok.matched c.in-Some.inst c.in-Some.is c.in-Ok.ensures.instance c.in-Ok.ensures.covers c.in-Ok.ensures.spread) c.as_slice.result.now c.as_slice.ensures
 
 pub build_kids-requires-clause-closed : goal.build_kids-requires-clause-closed
@@ -32,8 +30,7 @@ build_kids-requires-clause-closed c =
     let r = c.args.rule.now in
     let g = c.args.given.now in
     let q = c.args.goal.now in
-    let a = asked r c.args.first g q c.requires.allowed c.requires.good in
-    closed_new r c.args.first g q c.requires.rule c.requires.allowed a c.in-Some.inst
+    closed_new r c.args.first g q c.requires.rule c.requires.allowed c.requires.good c.in-Some.inst
     (match_made r.concl c.args.first q c.in-Ok.matched c.in-Some.inst c.in-Some.is c.in-Ok.ensures.instance c.in-Ok.ensures.covers c.in-Ok.ensures.spread) c.as_slice.result.now c.as_slice.ensures
     c.give_all.new.inst c.as_slice-2.result.now c.as_slice-2.ensures c.in-Ok-true.field-0 c.in-Ok-true.ensures c.in-Ok-true.field-0-test
 
@@ -42,8 +39,7 @@ build_kids-requires-clause-ready c =
     let r = c.args.rule.now in
     let g = c.args.given.now in
     let q = c.args.goal.now in
-    let a = asked r c.args.first g q c.requires.allowed c.requires.good in
-    ready_premises r c.args.first g q c.requires.rule c.requires.allowed a c.in-Some.inst
+    ready_premises r c.args.first g q c.requires.rule c.requires.allowed c.requires.good c.in-Some.inst
     (match_made r.concl c.args.first q c.in-Ok.matched c.in-Some.inst c.in-Some.is c.in-Ok.ensures.instance c.in-Ok.ensures.covers c.in-Ok.ensures.spread) c.as_slice.result.now c.as_slice.ensures
     c.give_all.new.inst c.as_slice-2.result.now c.as_slice-2.ensures c.in-Ok-true.field-0 c.in-Ok-true.ensures c.in-Ok-true.field-0-test
     c.as_slice-in-Ok-true.result.now c.as_slice-in-Ok-true.ensures
@@ -53,8 +49,7 @@ returns-in-Ok-true c =
     let r = c.args.rule.now in
     let g = c.args.given.now in
     let q = c.args.goal.now in
-    let a = asked r c.args.first g q c.requires.allowed c.requires.good in
-    step_answer r c.args.first g q c.requires.rule c.requires.allowed a c.in-Some.inst
+    step_answer r c.args.first g q c.requires.rule c.requires.allowed c.requires.good c.in-Some.inst
     (match_made r.concl c.args.first q c.in-Ok.matched c.in-Some.inst c.in-Some.is c.in-Ok.ensures.instance c.in-Ok.ensures.covers c.in-Ok.ensures.spread) c.as_slice.result.now c.as_slice.ensures
     c.give_all.new.inst c.as_slice-2.result.now c.as_slice-2.ensures c.in-Ok-true.field-0 c.in-Ok-true.ensures c.in-Ok-true.field-0-test
     c.as_slice-in-Ok-true.result.now c.as_slice-in-Ok-true.ensures c.build_kids.result c.build_kids.ensures
@@ -64,8 +59,7 @@ returns-in-Ok-false c =
     let r = c.args.rule.now in
     let g = c.args.given.now in
     let q = c.args.goal.now in
-    let a = asked r c.args.first g q c.requires.allowed c.requires.good in
-    bad_answer r c.args.first g q c.requires.rule c.requires.allowed a c.in-Some.inst
+    bad_answer r c.args.first g q c.requires.rule c.requires.allowed c.requires.good c.in-Some.inst
     (match_made r.concl c.args.first q c.in-Ok.matched c.in-Some.inst c.in-Some.is c.in-Ok.ensures.instance c.in-Ok.ensures.covers c.in-Ok.ensures.spread) c.as_slice.result.now c.as_slice.ensures
     c.give_all.new.inst c.as_slice-2.result.now c.as_slice-2.ensures c.in-Ok-false.field-0 c.in-Ok-false.ensures c.in-Ok-false.field-0-test
 
@@ -74,5 +68,4 @@ returns-in_default-matched c =
     let r = c.args.rule.now in
     let g = c.args.given.now in
     let q = c.args.goal.now in
-    let a = asked r c.args.first g q c.requires.allowed c.requires.good in
-    none_answer r c.args.first g q c.requires.rule c.requires.allowed a c.in-Ok.matched c.in_default-matched.is c.in-Ok.ensures.instance
+    none_answer r c.args.first g q c.requires.rule c.requires.allowed c.requires.good c.in-Ok.matched c.in_default-matched.is c.in-Ok.ensures.instance

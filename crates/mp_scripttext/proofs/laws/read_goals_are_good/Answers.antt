@@ -2,8 +2,7 @@ use Rattle.std.proofs.Common.{sym, subst}
 use Rattle.mp_scripttext.specs.declared.script.Script.{Script}
 use Rattle.mp_scripttext.specs.Entries.{EachGood}
 use Rattle.mp_scripttext.specs.Statics.{script_faults}
-use Rattle.mp_scripttext.proofs.GoodEntries.{entries_faultless, no_static_fault}
-use Rattle.mp_scripttext.proofs.GoodScripts.{entries_good}
+use Rattle.mp_scripttext.proofs.GoodEntries.{entries_faultless, entries_good, no_static_fault}
 use Rattle.mp_scripttext.proofs.laws.read_goals_are_good.Goals as goal
 
 pub returns : goal.returns

@@ -7,7 +7,5 @@ use Rattle.mp_steptext.proofs.term.build_just.Goals as goal
 pub returns : goal.returns
 returns c =
     let t = c.args.theory.now in
-    record {
-      value = ap just_by c.in_ok-value.ensures;
-      allowed = ap (λ v. is_allowed t (just_by v)) c.in_ok-value.ensures ∙ step_allowed t c.len-count.ensures.theory c.args.step.now c.requires;
-    }
+    let value = c.just_by.ensures ∙ ap just_by c.in_ok-value.ensures in
+    record { value = value; allowed = ap (is_allowed t) value ∙ step_allowed t c.len-count.ensures.theory c.args.step.now c.requires }

@@ -1,0 +1,17 @@
+pub mod ArgumentTells
+pub mod FaultWalks
+pub mod Fitting
+pub mod Gathering
+pub mod LikeUses
+pub mod Narrow
+pub mod PatternParts
+pub mod PatternSteps
+pub mod PatternUnfolds
+pub mod RawInduction
+pub mod RawLayers
+pub mod SameNames
+pub mod SizesAndHoles
+pub mod Telling
+pub mod Twice
+pub mod UsedWell
+pub mod ValueWalks

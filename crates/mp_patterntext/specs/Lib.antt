@@ -1,0 +1,9 @@
+pub mod Buildable
+pub mod Grammar
+pub mod Nodes
+pub mod Places
+pub mod Scopes
+pub mod Sizes
+pub mod Unbound
+pub mod Uses
+pub mod Values

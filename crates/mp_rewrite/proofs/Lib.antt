@@ -1,0 +1,10 @@
+pub mod Gathered
+pub mod Instances
+pub mod Laws
+pub mod Lists
+pub mod Places
+pub mod Sites
+pub mod Stepping
+pub mod Walks
+pub mod Weighing
+pub mod Whole

@@ -1,0 +1,5 @@
+pub mod Addresses
+pub mod Building
+pub mod Laws
+pub mod RewriteStep
+pub mod Steps

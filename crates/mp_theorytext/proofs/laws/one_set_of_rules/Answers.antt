@@ -1,5 +1,0 @@
-use Rattle.mp_theorytext.proofs.RuleTells as rules
-use Rattle.mp_theorytext.proofs.laws.one_set_of_rules.Goals as goal
-
-pub returns : goal.returns
-returns c = rules.one_set_of_rules

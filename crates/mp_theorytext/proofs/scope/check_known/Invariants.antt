@@ -1,8 +1,0 @@
-use Rattle.std.proofs.Common.{◌≡◌, drop}
-use Rattle.mp_words.specs.Faults.{least_from}
-use Rattle.mp_theorytext.specs.Nodes.{dangling_faults}
-use Rattle.mp_theorytext.specs.Scopes.{syms_of}
-use Rattle.mp_theorytext.proofs.scope.check_known.Given as goal
-
-abbrev pub invariant-loop-ctx : goal.invariant-loop-ctx
-invariant-loop-ctx l = least_from l.held (dangling_faults (syms_of l.known) (drop l.ctx-index l.ctxs)) ≡ least_from l.fn.held (dangling_faults (syms_of l.known) l.ctxs)
