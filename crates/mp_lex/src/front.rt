@@ -168,7 +168,7 @@ pub fn digits_value(digits: &[u8]) -> u64
     total
 }
 
-/// Whether the digits, behind a `-` where it is negative, are a number of 64 bits as it has to be written.
+/// Whether the digits, after a `-` where it is negative, are a number of 64 bits as it has to be written.
 fn fits(negative: bool, digits: &[u8]) -> bool
     requires some { 0 < length digits.now }
     requires digits { list_all is_digit digits.now ≡ true }

@@ -119,7 +119,7 @@ module _ (sizes : Sizes) (w : Walk) (laid : IsLaid w.place) (name : Sym) (names 
 
     fit-to : IsTrue (in_scopes_from (length levels) (v.kept name)) → IsTrue (item_fits v (Ctx name names args))
     fit-to h = and_true (in_scopes_from (wide_of v names + length args) (v.kept name)) (all_pass (map (fits (wide_of v) v.values) args))
-        (rw width-is h) (args-fit (wide_of v) v.values (length w.place.named) args (fine-variables (length w.place.named) (map seen args) fine))
+        (rw width-is h) (args-fit (wide_of v) v.values w.place.named args (fine-variables (length w.place.named) (map seen args) fine))
 
   module _ (kept : List Term) where
     abbrev value : CtxVal

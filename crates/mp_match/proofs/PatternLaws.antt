@@ -1,12 +1,11 @@
 -- What matching a pattern finds are the values that make it the term.
 use Rattle.std.proofs.Common.{◌≡◌, ℕ, ◌+◌, ◌-◌, ◌<◌, List, [], ◌∷◌, ◌++◌, length, map, get_or, true, IsTrue, All, Option, Some, None, nat_eq, if◌then◌else◌, option_and_then, inl, inr, append-nil, append_assoc, refl, sym, ap, ◌∙◌, arith}
-use Rattle.std.specs.List.{IsDistinct}
+use Rattle.std.specs.List.{IsDistinct, list_all}
 use Rattle.std.proofs.lemmas.Bool.Decides.{nat_tests}
 use Rattle.std.proofs.lemmas.List.{map-append, length-map, length-append, get_or-map}
 use Rattle.mp_logic.specs.declared.sym.Sym.{Sym}
 use Rattle.mp_term.specs.declared.term.Param.{Param}
-use Rattle.mp_term.specs.declared.term.Term.{Term, Term-F, Var, Op, out-Term}
-use Rattle.mp_term.specs.declared.term.Term.TheOpen as term_layer
+use Rattle.mp_term.specs.declared.term.Term.{Term, Var, Op, out-Term}
 use Rattle.mp_term.specs.declared.term.Bound.{Bound}
 use Rattle.mp_term.specs.Terms.{in_scope_of, all_at_scope}
 use Rattle.mp_term.proofs.Layers.{in_scope-Op, scoped_bound, scoped_bound-is, out-Var, out-Op, same-Var, variant}
@@ -18,14 +17,16 @@ use Rattle.mp_schema.specs.declared.pattern.Pattern.{Pattern}
 use Rattle.mp_schema.specs.declared.pattern.Pattern as pat
 use Rattle.mp_schema.specs.declared.pattern.PBound.{PBound}
 use Rattle.mp_schema.specs.Induction.{OfEachBody, OfEachArg, each_pattern}
-use Rattle.mp_schema.specs.Instances.{Values, Ground, made_each, param_of, inst_of, inst_bound, all_pass, fits, fits_bound}
-use Rattle.mp_schema.specs.Conditions.{Seen, seen, seen_bound, is_level_below, all_variables, all_fine, args_fine, is_known, lists_known, lists_known_bound, argument}
+use Rattle.mp_schema.specs.Instances.{Values, Ground, Wide, made_each, param_of, inst_of, inst_bound, all_pass, fits, fits_bound}
+use Rattle.mp_schema.specs.Conditions.{Seen, seen, seen_bound, all_variables, all_fine, args_fine, is_known, lists_known, lists_known_bound, argument}
 use Rattle.mp_schema.specs.Values.{find_meta, find_param}
-use Rattle.mp_schema.proofs.Layers.{inst-Var, inst-Op, inst-Meta, inst_bound-is, fits-Var, fits-Op, fits-Meta, fits_bound-is, seen-Var, seen-Op, seen-Meta, fine-Var, fine-Op, fine-Meta, fine_bound-is, lists_known-Op, lists_known-Meta, lists_known_bound-is}
+use Rattle.mp_schema.proofs.Layers.{inst-Var, inst-Op, inst-Meta, inst_bound-is, fits-Var, fits-Op, fits-Meta, fits_bound-is, fine-Var, fine-Op, fine-Meta, fine_bound-is, lists_known-Op, lists_known-Meta, lists_known_bound-is}
 use Rattle.mp_match.specs.declared.place.Found.{Found}
 use Rattle.mp_term.specs.Equality.{same_param, same_term, is_level}
 use Rattle.mp_match.specs.Matching.{hole_found, param_found, params_found, value_found, meta_found, matcher_bound, all_found, found_in}
 use Rattle.mp_term.proofs.EqualTerms.{both_true, and_true, decided, same_name, param-same, param-refl, term-same, term-refl}
+use Rattle.mp_schema.proofs.Fitting.{meta_fits, all_fit-told}
+use Rattle.mp_schema.proofs.OnePattern.{args-made, op-subs}
 use Rattle.mp_match.proofs.Layers.{finds-Var, finds-Op, finds_bound-is}
 use Rattle.mp_match.proofs.Known.{found-Meta}
 use Rattle.mp_term.proofs.Ranges.{map-Var-upto, length-upto}
@@ -93,54 +94,9 @@ level-same l t e = sym (same-Var l t) ∙ rw (sym e) (term-refl (Var l))
 
 -- ## Arguments
 
-module _ (g : Ground) (v : Values) (levels : List ℕ) (m : ℕ) where
-  abbrev IsRead : Pattern → Type 0
-  IsRead a = is_level_below (length levels) (seen a).level ≡ true → inst_of g v a (map Var levels) m ≡ Var (argument levels (seen a).level)
-
-  read_var : (l : ℕ) → IsRead (pat.Var l)
-  read_var l h =
-      let e = seen-Var l in
-      let test : l < length levels = grind (arith, nat_tests, rw e at h) in
-      let item = get_or-map Var levels l 0 (Var l) test in
-      rw (inst-Var, e) item
-
-  read_op : (o : Sym) (ps : List ParamPat) (subs : List PBound) → OfEachBody IsRead subs → IsRead (pat.Op o ps subs)
-  read_op o ps subs _ h = let no' = rw (seen-Op o ps subs) at h in absurd (cc)
-
-  read_meta : (n : Sym) (cs : List Sym) (args : List Pattern) → OfEachArg IsRead args → IsRead (pat.Meta n cs args)
-  read_meta n cs args _ h = let no' = rw (seen-Meta n cs args) at h in absurd (cc)
-
-  read : (a : Pattern) → IsRead a
-  read = each_pattern IsRead read_var read_op read_meta
-
-  pub args-made : (args : List Pattern) → all_variables (length levels) (map seen args) ≡ true →
-      made_each (map (inst_of g v) args) (map Var levels) m ≡ map Var (map (λ (a : Seen). argument levels a.level) (map seen args))
-  args-made [] h = refl
-  args-made (a ∷ rest) h =
-      let k = both_true (is_level_below (length levels) (seen a).level) (all_variables (length levels) (map seen rest)) h in
-      rw (read a k.0, args-made rest k.1) refl
-
-module _ (w : List Sym → ℕ) (v : Values) (d : ℕ) where
-  abbrev IsFit : Pattern → Type 0
-  IsFit a = is_level_below d (seen a).level ≡ true → fits w v a ≡ true
-
-  fit_var : (l : ℕ) → IsFit (pat.Var l)
-  fit_var l h = fits-Var w v l
-
-  fit_op : (o : Sym) (ps : List ParamPat) (subs : List PBound) → OfEachBody IsFit subs → IsFit (pat.Op o ps subs)
-  fit_op o ps subs _ h = let no' = rw (seen-Op o ps subs) at h in absurd (cc)
-
-  fit_meta : (n : Sym) (cs : List Sym) (args : List Pattern) → OfEachArg IsFit args → IsFit (pat.Meta n cs args)
-  fit_meta n cs args _ h = let no' = rw (seen-Meta n cs args) at h in absurd (cc)
-
-  fit : (a : Pattern) → IsFit a
-  fit = each_pattern IsFit fit_var fit_op fit_meta
-
-  pub args-fit : (args : List Pattern) → all_variables d (map seen args) ≡ true → all_pass (map (fits w v) args) ≡ true
-  args-fit [] h = refl
-  args-fit (a ∷ rest) h =
-      let k = both_true (is_level_below d (seen a).level) (all_variables d (map seen rest)) h in
-      and_true (fits w v a) (all_pass (map (fits w v) rest)) (fit a k.0) (args-fit rest k.1)
+-- values fit arguments that are variables
+pub args-fit : (w : Wide) (v : Values) (levels : List ℕ) (args : List Pattern) → all_variables (length levels) (map seen args) ≡ true → all_pass (map (fits w v) args) ≡ true
+args-fit w v levels args h = all_fit-told w v args ∙ ap (list_all (meta_fits w v)) (args-made (λ cs. []) v levels 0 args h).1
 
 -- ## Patterns
 
@@ -219,7 +175,7 @@ module _ (g : Ground) (known : List Sym) where
       long = length-append (g cs) arguments ∙ ap (λ k. length (g cs) + k) (length-map (map seen args) (λ (a : Seen). argument levels a.level) ∙ length-map args seen)
 
       opened : (v : Values) → inst_of g v (pat.Meta n cs args) (map Var levels) m ≡ sub_of (v.meta n) (map Var all) m
-      opened v = rw (inst-Meta, args-made g v levels m args variables', map-append Var (g cs) arguments) refl
+      opened v = rw (inst-Meta, (args-made g v levels m args variables').0, map-append Var (g cs) arguments) refl
 
       fit_value : (v : Values) → IsTrue (fits width v (pat.Meta n cs args)) → IsTrue (in_scope_of (v.meta n) (length all))
       fit_value v h =
@@ -228,7 +184,7 @@ module _ (g : Ground) (known : List Sym) where
 
       fit_whole : (v : Values) → IsTrue (in_scope_of (v.meta n) (length all)) → IsTrue (fits width v (pat.Meta n cs args))
       fit_whole v h = rw fits-Meta (and_true (in_scope_of (v.meta n) (length (g cs) + length args)) (all_pass (map (fits width v) args))
-          (rw long at h) (args-fit width v (length levels) args variables'))
+          (rw long at h) (args-fit width v levels args variables'))
 
   -- a body
   abbrev AsksBound : PBound → List ℕ → ℕ → Bound → Values → Type 0
@@ -289,14 +245,6 @@ module _ (g : Ground) (known : List Sym) where
       (solved_bound b x levels m old ih.0 f.0 l.0 usable s.0) (λ found. solved_subs subs xs levels m found ih.1 f.1 l.1 usable s.1))
 
   -- an operator
-  subs_in : Term-F Term Bound → List Bound
-  subs_in (term_layer.Var level) = []
-  subs_in (term_layer.Op o ps bs) = bs
-
-  same_subs : (o o' : Sym) (ps ps' : List Param) (xs ys : List Bound) → Op o ps xs ≡ Op o' ps' ys → xs ≡ ys
-  unfolding subs_in
-  same_subs o o' ps ps' xs ys e = sym (ap subs_in (out-Op o ps xs)) ∙ ap (λ t. subs_in (out-Term t)) e ∙ ap subs_in (out-Op o' ps' ys)
-
   solved_op : (o : Sym) (ps : List ParamPat) (subs : List PBound) → OfEachBody IsSolved subs → IsSolved (pat.Op o ps subs)
   solved_op o ps subs ih levels m t old fine lists usable scoped = rw finds-Op (elim (variant t) [
     | inl v ↦ rw (v.1, out-Var v.0) (Solves-none (Asks (pat.Op o ps subs) levels m (Var v.0)) old (λ w h. let e = sym (opened w) ∙ h.1 in absurd (cc)))
@@ -318,7 +266,7 @@ module _ (g : Ground) (known : List Sym) where
       | inl same ↦ rw same (Solves-as (λ v. (map (param_of v) ps ≡ vs) × AsksEach subs levels m xs v) (Asks (pat.Op o ps subs) levels m (Op o' vs xs)) old
           (option_and_then (all_found (map (matcher_bound g) subs) levels m xs) (params_found ps vs old))
           (λ v h. (fit_to v h.1.0, opened v ∙ rw (same_name o o' same, h.0, h.1.1) refl))
-          (λ v h. let e = sym (opened v) ∙ h.1 in (cc, (fit_from v h.0, same_subs o o' (map (param_of v) ps) vs _ xs e)))
+          (λ v h. let e = sym (opened v) ∙ h.1 in (cc, (fit_from v h.0, op-subs o o' (map (param_of v) ps) vs _ xs e)))
           (Solves-then (λ v. map (param_of v) ps ≡ vs) (AsksEach subs levels m xs) old (params_found ps vs old) (all_found (map (matcher_bound g) subs) levels m xs)
           (params-solved ps vs old)
           (λ found. solved_subs subs xs levels m found ih (rw fine-Op at fine) (rw lists_known-Op at lists) usable (rw in_scope-Op at scoped'))))

@@ -1,5 +1,5 @@
 -- Where the variables of the contexts that a match finds lie in the goal.
-use Rattle.std.proofs.Common.{◌≡◌, ℕ, ◌<◌, ◌^◌, List, length, Option, Some, None, option_and_then, IsTrue, IsSome, ◌↔◌, refl, ap, ◌∙◌, arith}
+use Rattle.std.proofs.Common.{◌≡◌, ℕ, ◌<◌, ◌^◌, List, length, Option, Some, None, option_and_then, IsTrue, IsSome, ◌↔◌, ap, ◌∙◌, arith}
 use Rattle.std.specs.Option.{option_map}
 use Rattle.std.specs.Prelude.{IfSome}
 use Rattle.std.proofs.lemmas.Option.{option_and_then_some}

@@ -5,7 +5,7 @@ use Rattle.std.specs.Prelude.{ℕ, List, [], Option, None, Some}
 use Rattle.mp_words.specs.declared.word.What.{What}
 use Rattle.mp_words.specs.declared.word.Word.{Word}
 use Rattle.mp_words.specs.declared.raw.RawName.{RawName}
-use Rattle.mp_words.specs.Grammars.{Grammar, Is, Stuck, after, both, choose, fronted, itself, made, optional, or_word, row, stands, token}
+use Rattle.mp_words.specs.Grammars.{Grammar, after, both, choose, fronted, itself, made, optional, or_word, row, stands, token}
 use Rattle.mp_words.specs.Fronts.{a_capital, a_capital_variable, a_name, capital_variable_at, is_mark, with_place}
 use Rattle.mp_termtext.specs.declared.raw.RawParam.{RawParam}
 use Rattle.mp_termtext.specs.Grammar.{binders, param_at}
@@ -100,13 +100,3 @@ pattern_by g = or_word pattern_variable_at (choose (stands capital_variable_at) 
 -- a variable, a second-order variable with its contexts and arguments, or a name with its parameters and subterms
 unfoldable pub pattern : Grammar Word RawPattern
 pattern = itself pattern_by
-
--- ## As relations
-
--- the pattern stands at the front of the words, and these are left
-abbrev pub IsPattern : RawPattern → List Word → List Word → Type 0
-IsPattern = Is pattern
-
--- a reading of a pattern is stuck at the first of these words
-abbrev pub StuckPattern : List Word → List Word → Type 0
-StuckPattern = Stuck pattern

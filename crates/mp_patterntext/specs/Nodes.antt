@@ -79,13 +79,13 @@ pub record Viewed : Type 0 where
   pub argument : Argument
   pub faults : Checked
 
-module _ (known : List Sym) (in_conclusion : Bool) where
+module _ (known : List Sym) (is_matched : Bool) where
   -- what is asked of a context or a second-order variable with this list of contexts and these arguments: few of both, a
   -- list of contexts before it, and in the conclusion of a rule distinct variables as arguments
   abbrev pub use_faults : List RawName → List Argument → List TextErr
   use_faults ctxs args =
       too_many (λ c. c.at) MOST_CONTEXTS ctxs ++ too_many (λ a. a.at) MOST_ARGUMENTS args ++ list_faults known ctxs
-      ++ (if in_conclusion then argument_faults args else [])
+      ++ (if is_matched then argument_faults args else [])
 
   -- what is seen of one node, from what is seen of the patterns in it
   abbrev pub node_step : RawPattern-F Viewed Checked → Viewed

@@ -77,7 +77,7 @@ fn names_of(alloc: Global, written: &[RawName]) -> Result<NameSet, NoMemory>
     Ok(names)
 }
 
-/// The soonest of the fault that is held and those of names that aren't among the known ones.
+/// The earliest of the fault that is held and those of names that aren't among the known ones.
 pub fn check_unknown(
     alloc: Global,
     held: Option<TextErr>,

@@ -86,7 +86,7 @@ fn check_counts(held: Option<TextErr>, ctxs: &[RawName], args: &[RawPattern]) ->
     held
 }
 
-/// The soonest of the fault that is held and those of arguments that aren't variables.
+/// The earliest of the fault that is held and those of arguments that aren't variables.
 fn check_variables(held: Option<TextErr>, args: &[RawPattern]) -> Option<TextErr>
     ensures { result ≡ least_from held (flat_map (λ a. fault_if (is_none a.variable) a.at why.NotAPattern) (map argument_of args.now)) }
 {
@@ -121,7 +121,7 @@ fn variables(alloc: Global, args: &[RawPattern]) -> Result<Vec<RawName>, NoMemor
     Ok(names)
 }
 
-/// The soonest of the fault that is held and those of arguments that aren't distinct variables.
+/// The earliest of the fault that is held and those of arguments that aren't distinct variables.
 #[tactic(auto, using(mp_words::proofs::Soonest::least_from_append))]
 fn check_arguments(
     alloc: Global,
@@ -135,43 +135,43 @@ fn check_arguments(
     Ok(check_apart(held, names.as_slice(), TextWhy::NotAPattern))
 }
 
-/// The soonest of the fault that is held and those of a context or a second-order variable with this list of contexts and
-/// these arguments, behind the known contexts.
+/// The earliest of the fault that is held and those of a context or a second-order variable with this list of contexts and
+/// these arguments, after the known contexts.
 #[tactic(auto, using(mp_words::proofs::Soonest::least_from_append))]
 pub fn check_use(
     alloc: Global,
     known: &[RawName],
-    in_conclusion: bool,
+    is_matched: bool,
     ctxs: &[RawName],
     args: &[RawPattern],
     held: Option<TextErr>,
 ) -> Result<Option<TextErr>, NoMemory>
-    ensures { IfOk result (λ found. found ≡ least_from held (use_faults (syms_of known.now) in_conclusion ctxs.now (map argument_of args.now))) }
+    ensures { IfOk result (λ found. found ≡ least_from held (use_faults (syms_of known.now) is_matched ctxs.now (map argument_of args.now))) }
 {
     let held = check_counts(held, ctxs, args);
     let held = check_known(held, known, ctxs);
     let held = check_apart(held, ctxs, TextWhy::TwiceContext);
-    if !in_conclusion {
+    if !is_matched {
         return Ok(held);
     }
     let found = check_arguments(alloc, args, held)?;
     Ok(found)
 }
 
-/// The soonest of the fault that is held and those of the nodes of a pattern at this depth, where the names `env` are
-/// bound, behind the known contexts. TOO_DEEP stands for all depths that are too great.
+/// The earliest of the fault that is held and those of the nodes of a pattern at this depth, where the names `env` are
+/// bound, after the known contexts. TOO_DEEP stands for all depths that are too great.
 #[cycle(checking)]
 #[tactic(auto, using(mp_words::proofs::Soonest::least_from_append))]
 pub fn check_nodes(
     alloc: Global,
     raw: &RawPattern,
     known: &[RawName],
-    in_conclusion: bool,
+    is_matched: bool,
     env: &mut Vec<Sym>,
     depth: u64,
     held: Option<TextErr>,
 ) -> Result<Option<TextErr>, NoMemory>
-    ensures fault { IfOk result (λ found. (d : ℕ) → min d TOO_DEEP ≡ depth → found ≡ least_from held (node_faults (syms_of known.now) in_conclusion raw.now env.old.items d)) }
+    ensures fault { IfOk result (λ found. (d : ℕ) → min d TOO_DEEP ≡ depth → found ≡ least_from held (node_faults (syms_of known.now) is_matched raw.now env.old.items d)) }
     ensures env { OnOk result (env.new.items ≡ env.old.items) }
 {
     let inner = depth.saturating_add(1).min(TOO_DEEP);
@@ -189,14 +189,14 @@ pub fn check_nodes(
             let held = check_depth(held, depth, *at);
             let held = check_params(held, params.as_slice());
             let subs = subs.as_slice();
-            let found = check_bounds_nodes(alloc, subs, known, in_conclusion, env, inner, held)?;
+            let found = check_bounds_nodes(alloc, subs, known, is_matched, env, inner, held)?;
             Ok(found)
         }
         RawPattern::Meta { ctxs, args, at, .. } => {
             let held = check_depth(held, depth, *at);
             let args = args.as_slice();
-            let held = check_use(alloc, known, in_conclusion, ctxs.as_slice(), args, held)?;
-            let found = check_argument_nodes(alloc, args, known, in_conclusion, env, inner, held)?;
+            let held = check_use(alloc, known, is_matched, ctxs.as_slice(), args, held)?;
+            let found = check_argument_nodes(alloc, args, known, is_matched, env, inner, held)?;
             Ok(found)
         }
     }
@@ -208,17 +208,17 @@ fn check_bounds_nodes(
     alloc: Global,
     subs: &[RawPatternBound],
     known: &[RawName],
-    in_conclusion: bool,
+    is_matched: bool,
     env: &mut Vec<Sym>,
     depth: u64,
     held: Option<TextErr>,
 ) -> Result<Option<TextErr>, NoMemory>
-    ensures fault { IfOk result (λ found. (d : ℕ) → min d TOO_DEEP ≡ depth → found ≡ least_from held (each_faults (map (bound_node_faults (syms_of known.now) in_conclusion) subs.now) env.old.items d)) }
+    ensures fault { IfOk result (λ found. (d : ℕ) → min d TOO_DEEP ≡ depth → found ≡ least_from held (each_faults (map (bound_node_faults (syms_of known.now) is_matched) subs.now) env.old.items d)) }
     ensures env { OnOk result (env.new.items ≡ env.old.items) }
 {
     let mut held = held;
     for sub in subs {
-        held = check_bound_nodes(alloc, sub, known, in_conclusion, env, depth, held)?;
+        held = check_bound_nodes(alloc, sub, known, is_matched, env, depth, held)?;
     }
     Ok(held)
 }
@@ -229,12 +229,12 @@ fn check_bound_nodes(
     alloc: Global,
     raw: &RawPatternBound,
     known: &[RawName],
-    in_conclusion: bool,
+    is_matched: bool,
     env: &mut Vec<Sym>,
     depth: u64,
     held: Option<TextErr>,
 ) -> Result<Option<TextErr>, NoMemory>
-    ensures fault { IfOk result (λ found. (d : ℕ) → min d TOO_DEEP ≡ depth → found ≡ least_from held (bound_node_faults (syms_of known.now) in_conclusion raw.now env.old.items d)) }
+    ensures fault { IfOk result (λ found. (d : ℕ) → min d TOO_DEEP ≡ depth → found ≡ least_from held (bound_node_faults (syms_of known.now) is_matched raw.now env.old.items d)) }
     ensures env { OnOk result (env.new.items ≡ env.old.items) }
 {
     let held = match raw.binders.get(MOST_BINDERS as u64) {
@@ -243,29 +243,29 @@ fn check_bound_nodes(
     };
     let outer = env.len();
     push_names(env, raw.binders.as_slice())?;
-    let found = check_nodes(alloc, &raw.body, known, in_conclusion, env, depth, held)?;
+    let found = check_nodes(alloc, &raw.body, known, is_matched, env, depth, held)?;
     env.truncate(outer);
     Ok(found)
 }
 
-/// The soonest of the fault that is held and those of the nodes of arguments at this depth.
+/// The earliest of the fault that is held and those of the nodes of arguments at this depth.
 #[cycle(checking)]
 #[tactic(auto, using(mp_words::proofs::Soonest::least_from_append))]
 pub fn check_argument_nodes(
     alloc: Global,
     args: &[RawPattern],
     known: &[RawName],
-    in_conclusion: bool,
+    is_matched: bool,
     env: &mut Vec<Sym>,
     depth: u64,
     held: Option<TextErr>,
 ) -> Result<Option<TextErr>, NoMemory>
-    ensures fault { IfOk result (λ found. (d : ℕ) → min d TOO_DEEP ≡ depth → found ≡ least_from held (each_faults (map (node_faults (syms_of known.now) in_conclusion) args.now) env.old.items d)) }
+    ensures fault { IfOk result (λ found. (d : ℕ) → min d TOO_DEEP ≡ depth → found ≡ least_from held (each_faults (map (node_faults (syms_of known.now) is_matched) args.now) env.old.items d)) }
     ensures env { OnOk result (env.new.items ≡ env.old.items) }
 {
     let mut held = held;
     for arg in args {
-        held = check_nodes(alloc, arg, known, in_conclusion, env, depth, held)?;
+        held = check_nodes(alloc, arg, known, is_matched, env, depth, held)?;
     }
     Ok(held)
 }

@@ -73,7 +73,7 @@ pub fn parse_contexts(alloc: Global, words: &[Word]) -> Result<(List<RawName>, &
     }
 }
 
-/// The variable at the front, and what is behind it.
+/// The variable at the front, and what is after it.
 fn variable(words: &[Word]) -> Option<(RawPattern, &[Word])>
     ensures { MatchOption result (taken pattern_variable_at words.now ≡ None) (λ p. (taken pattern_variable_at words.now ≡ Some p.0) × (p.1.now ≡ drop 1 words.now)) }
 {

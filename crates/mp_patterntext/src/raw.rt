@@ -11,7 +11,7 @@ pub enum RawParamPat {
     Hole { name: RawName, at: u32 },
 }
 
-/// A subterm of a pattern as it is written, behind its binders.
+/// A subterm of a pattern as it is written, after its binders.
 #[cycle(raw)]
 #[derive(Drop)]
 pub struct RawPatternBound {

@@ -33,7 +33,7 @@ fn is_second(held: Option<TextErr>, earlier: &[RawName], name: RawName) -> bool
     !behind(held, name.at) && has_name(earlier, name.name)
 }
 
-/// The soonest of the fault that is held and those of contexts that aren't among the known ones.
+/// The earliest of the fault that is held and those of contexts that aren't among the known ones.
 // The time is linear: behind the ninth context of a list, and the 201st item of a schema, there is a fault that is held.
 pub fn check_known(held: Option<TextErr>, known: &[RawName], ctxs: &[RawName]) -> Option<TextErr>
     ensures { result ≡ least_from held (dangling_faults (syms_of known.now) ctxs.now) }
@@ -46,7 +46,7 @@ pub fn check_known(held: Option<TextErr>, known: &[RawName], ctxs: &[RawName]) -
     held
 }
 
-/// The soonest of the fault that is held and those of a second one of its name, where only few names count.
+/// The earliest of the fault that is held and those of a second one of its name, where only few names count.
 pub fn check_apart(held: Option<TextErr>, names: &[RawName], why: TextWhy) -> Option<TextErr>
     ensures { result ≡ least_from held (second_faults (λ n. n) why names.now) }
 {

@@ -97,7 +97,7 @@ fn find_first_uses<'a>(alloc: Global, places: &[Place<'a>]) -> Result<FirstUses<
     Ok(firsts)
 }
 
-/// The soonest of the fault that is held and those of the uses at these places: each is like the first one of its name.
+/// The earliest of the fault that is held and those of the uses at these places: each is like the first one of its name.
 pub fn check_alike(
     alloc: Global,
     places: &[Place<'_>],

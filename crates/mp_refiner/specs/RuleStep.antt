@@ -28,8 +28,9 @@ MeetsAll v concl [] (g ∷ gs) = ⊥
 MeetsAll v concl (n ∷ ns) [] = ⊥
 MeetsAll v concl (n ∷ ns) (g ∷ gs) = Meets v concl n g × MeetsAll v concl ns gs
 
--- by some instance the rule's conclusion is the goal, the needs are as given, and the premises, in order, are the kids; if
--- there are two contexts, the first one has as many hypotheses as the step says
+-- by some instance the rule's conclusion is the goal, the needs are as given, and the premises, in order, are the kids; its
+-- values use no more variables than each place of a premise has; if there are two contexts, the first one has as many hypotheses
+-- as the step says
 pub record RuleStep (rule : Rule) (first : Option ℕ) (given : List Given) (goal : Sequent) (kids : List Sequent) : Type 0 where
   pub instance : Instance
   pub match : GivesGoal rule.concl first goal instance

@@ -48,7 +48,7 @@ pub fn push_result(
     push_outcome(alloc, out, names, theory, justs, outcome)
 }
 
-/// Appends what stands behind the goal's name.
+/// Appends what stands after the goal's name.
 fn push_outcome(
     alloc: Global,
     out: &mut Vec<u8>,

@@ -28,8 +28,9 @@ kids_by rewrite place address goal scope v =
 abbrev pub is_barred : Rewrite → Place → Sequent → Subterm → Bool
 is_barred rewrite place goal at = nat_lt 0 (length rewrite.conds) && nat_lt (length (hyps_before place goal)) at.scope
 
--- there is a subterm at the address, by some instance it is the redex, and the kids are those of this instance; if there is a
--- condition, the address passes no binder
+-- there is a subterm at the address, by some instance it is the redex, and the kids are those of this instance, whose values
+-- use no more variables than each place of the contractum and of the conditions has; if there is a condition, the address
+-- passes no binder
 pub record RewriteStep (rewrite : Rewrite) (place : Place) (address : List ℕ) (goal : Sequent) (kids : List Sequent) : Type 0 where
   pub at : Subterm
   pub instance : Instance

@@ -18,7 +18,7 @@ use std::alloc::Global;
 ///
 /// Refused is, in this order: `BadAddress`, that there is no such hypothesis or no such subterm; `UnderBinder`, that the
 /// rewrite has a condition and the address passes a binder; `NoMatch`, that the subterm is no instance of the redex;
-/// `TooLarge`, that a subgoal isn't within the limits. The first two take no memory.
+/// `TooLarge`, that a subgoal isn't within the limits.
 ///
 /// The rewrite must have no fault, and the goal must be good. What is unchanged is shared with the goal, and the time is linear in
 /// the goal's nodes and those that are built, however long the address is.

@@ -32,6 +32,9 @@ asks_fit w v = record {
 pub fits-told : (w : Wide) (v : Values) (p : Pattern) → fits w v p ≡ list_all (meta_fits w v) (occurrences_in p)
 fits-told w v = told (meta_fits w v) (fits w v) (fits_bound w v) (asks_fit w v)
 
+pub all_fit-told : (w : Wide) (v : Values) (ps : List Pattern) → all_pass (map (fits w v) ps) ≡ list_all (meta_fits w v) (flat_map occurrences_in ps)
+all_fit-told w v = told_all (meta_fits w v) (fits w v) (fits_bound w v) (asks_fit w v)
+
 module _ (v : Instance) where
   asks_fit_here : AsksEach (occurrence_fits v) (fits (wide_of v) v.values) (fits_bound (wide_of v) v.values)
   asks_fit_here = record {

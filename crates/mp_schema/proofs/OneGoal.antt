@@ -68,7 +68,7 @@ made_length v (Ctx name ctxs args ∷ is) l =
     omega (arith, a, b, r)
 
 -- the place after the items is as many hypotheses on
-next_is : (v : Instance) (is : List Item) (l : Spot) → (behind_all v is l).next ≡ l.next + length (hyps_from v is l)
+pub next_is : (v : Instance) (is : List Item) (l : Spot) → (behind_all v is l).next ≡ l.next + length (hyps_from v is l)
 next_is v [] l = omega arith
 next_is v (Hyp p ∷ is) l =
     let a = length-append (hyps_of v (Hyp p) l) (hyps_from v is (behind v (Hyp p) l)) in

@@ -40,7 +40,7 @@ abbrev params_in : Term-F Term Bound → List Param
 params_in (layer.Var l) = []
 params_in (layer.Op o ps bs) = ps
 
-op-subs : (o o' : Sym) (ps ps' : List Param) (bs bs' : List Bound) → Op o ps bs ≡ Op o' ps' bs' → bs ≡ bs'
+pub op-subs : (o o' : Sym) (ps ps' : List Param) (bs bs' : List Bound) → Op o ps bs ≡ Op o' ps' bs' → bs ≡ bs'
 op-subs o o' ps ps' bs bs' e = sym (ap subs_in (out-Op o ps bs)) ∙ ap (λ t. subs_in (out-Term t)) e ∙ ap subs_in (out-Op o' ps' bs')
 
 op-params : (o o' : Sym) (ps ps' : List Param) (bs bs' : List Bound) → Op o ps bs ≡ Op o' ps' bs' → ps ≡ ps'

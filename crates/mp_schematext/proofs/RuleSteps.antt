@@ -21,8 +21,8 @@ module _ (ts us vs : List Word) (n : RawName) (named : name_behind keyword.Rule 
   abbrev in_premises : Parse Word (List RawSchema) → Parse Word RawRule
   in_premises o = behind (then_read o (λ ps ws. then_read (schema ws) (λ c xs. read (pair ps c) xs)))
 
-  abbrev in_conclusion : List RawSchema → Parse Word RawSchema → Parse Word RawRule
-  in_conclusion ps o = behind (then_read o (λ c xs. read (pair ps c) xs))
+  abbrev is_matched : List RawSchema → Parse Word RawSchema → Parse Word RawRule
+  is_matched ps o = behind (then_read o (λ c xs. read (pair ps c) xs))
 
   begun : rule ts ≡ in_premises (premises vs)
   begun = ap in_name named ∙ ap (λ b. behind (which b (both premises schema (drop 1 us)) (stuck us))) colon ∙ ap (λ ws. in_premises (premises ws)) (sym rest_is)
@@ -32,10 +32,10 @@ module _ (ts us vs : List Word) (n : RawName) (named : name_behind keyword.Rule 
 
   module _ (ps : List RawSchema) (ws : List Word) (h : premises vs ≡ read ps ws) where
     pub stuck_conclusion : (rest : List Word) → schema ws ≡ stuck rest → rule ts ≡ stuck rest
-    stuck_conclusion rest k = begun ∙ ap in_premises h ∙ ap (in_conclusion ps) k
+    stuck_conclusion rest k = begun ∙ ap in_premises h ∙ ap (is_matched ps) k
 
     pub rule_read : (c : RawSchema) (rest : List Word) → schema ws ≡ read c rest → rule ts ≡ read (record { name = n; premises = ps; concl = c }) rest
-    rule_read c rest k = begun ∙ ap in_premises h ∙ ap (in_conclusion ps) k
+    rule_read c rest k = begun ∙ ap in_premises h ∙ ap (is_matched ps) k
 
 pub shorter_rule : (ts us vs ws rest : List Word) → vs ≡ drop 1 us → length us < length ts → length ws < length vs → length rest < length ws → length rest < length ts
 shorter_rule ts us vs ws rest d a b c = let short = drop_short us vs d in omega (arith, short, a, b, c)

@@ -41,14 +41,14 @@ item_at (item.Hyp name pattern at) = at
 
 -- the faults of the nodes of an item: a context counts as a node, so its arguments are at depth 2
 abbrev pub item_faults : List Sym → Bool → RawItem → List Sym → List TextErr
-item_faults known in_conclusion (item.Ctx name ctxs args at) env =
-    use_faults known in_conclusion ctxs (map argument_of args) ++ each_faults (map (node_faults known in_conclusion) args) env 2
-item_faults known in_conclusion (item.Hyp name pattern at) env = node_faults known in_conclusion pattern env 1
+item_faults known is_matched (item.Ctx name ctxs args at) env =
+    use_faults known is_matched ctxs (map argument_of args) ++ each_faults (map (node_faults known is_matched) args) env 2
+item_faults known is_matched (item.Hyp name pattern at) env = node_faults known is_matched pattern env 1
 
 -- the faults of items, each after the contexts and the bound names before it
 abbrev pub items_faults : List Sym → Bool → List RawItem → List Sym → List TextErr
-items_faults known in_conclusion [] env = []
-items_faults known in_conclusion (i ∷ is) env = item_faults known in_conclusion i env ++ items_faults (contexts_past i known) in_conclusion is (env_past i env)
+items_faults known is_matched [] env = []
+items_faults known is_matched (i ∷ is) env = item_faults known is_matched i env ++ items_faults (contexts_past i known) is_matched is (env_past i env)
 
 -- the faults of named hypotheses that don't stand after exactly one context; so many contexts stand before these items
 abbrev pub misplaced_faults : ℕ → List RawItem → List TextErr
@@ -65,9 +65,9 @@ frame_faults s =
 
 -- what is asked of every schema: few items, no context that is an item twice, what is asked of its nodes, and few nodes
 abbrev pub schema_faults : Bool → RawSchema → List TextErr
-schema_faults in_conclusion s =
-    too_many item_at MOST_ITEMS s.items ++ second_faults (λ c. c) why.TwiceContext (contexts_of s) ++ items_faults [] in_conclusion s.items []
-    ++ node_faults (syms_of (contexts_of s)) in_conclusion s.concl (env_behind s.items []) 1 ++ fault_if (nat_lt MOST_NODES (raw_schema_size_of s)) s.at why.TooBig
+schema_faults is_matched s =
+    too_many item_at MOST_ITEMS s.items ++ second_faults (λ c. c) why.TwiceContext (contexts_of s) ++ items_faults [] is_matched s.items []
+    ++ node_faults (syms_of (contexts_of s)) is_matched s.concl (env_behind s.items []) 1 ++ fault_if (nat_lt MOST_NODES (raw_schema_size_of s)) s.at why.TooBig
 
 -- the faults of a premise of a rule whose conclusion has these contexts: its own are among them
 abbrev pub premise_faults : List Sym → RawSchema → List TextErr

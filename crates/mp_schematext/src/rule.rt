@@ -28,7 +28,7 @@ fn parse_hypothesis(alloc: Global, words: &[Word]) -> Result<(RawItem, &[Word]),
     }
 }
 
-/// Reads a context of an item, behind its `<` and up to its `>`: its name, its list of contexts and its arguments.
+/// Reads a context of an item, after its `<` and up to its `>`: its name, its list of contexts and its arguments.
 fn parse_context(
     alloc: Global,
     words: &[Word],

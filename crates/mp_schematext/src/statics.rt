@@ -57,49 +57,49 @@ fn contexts(alloc: Global, raw: &RawSchema) -> Result<Vec<RawName>, NoMemory>
     Ok(known)
 }
 
-/// The soonest of the fault that is held and those of the nodes of an item.
+/// The earliest of the fault that is held and those of the nodes of an item.
 #[tactic(auto, using(mp_words::proofs::Soonest::least_from_append))]
 fn check_item(
     alloc: Global,
     item: &RawItem,
     known: &[RawName],
-    in_conclusion: bool,
+    is_matched: bool,
     env: &mut Vec<Sym>,
     held: Option<TextErr>,
 ) -> Result<Option<TextErr>, NoMemory>
-    ensures fault { IfOk result (λ found. found ≡ least_from held (item_faults (syms_of known.now) in_conclusion item.now env.old.items)) }
+    ensures fault { IfOk result (λ found. found ≡ least_from held (item_faults (syms_of known.now) is_matched item.now env.old.items)) }
     ensures env { OnOk result (env.new.items ≡ env.old.items) }
 {
     match item {
         RawItem::Ctx { ctxs, args, .. } => {
             let args = args.as_slice();
-            let held = check_use(alloc, known, in_conclusion, ctxs.as_slice(), args, held)?;
-            let found = check_argument_nodes(alloc, args, known, in_conclusion, env, 2, held)?;
+            let held = check_use(alloc, known, is_matched, ctxs.as_slice(), args, held)?;
+            let found = check_argument_nodes(alloc, args, known, is_matched, env, 2, held)?;
             Ok(found)
         }
         RawItem::Hyp { pattern, .. } => {
-            let found = check_nodes(alloc, pattern, known, in_conclusion, env, 1, held)?;
+            let found = check_nodes(alloc, pattern, known, is_matched, env, 1, held)?;
             Ok(found)
         }
     }
 }
 
-/// The soonest of the fault that is held and those of the nodes of items, each behind the contexts and the bound names
-/// before it. The names of all of them are bound behind them.
+/// The earliest of the fault that is held and those of the nodes of items, each after the contexts and the bound names
+/// before it. The names of all of them are bound after them.
 fn check_items(
     alloc: Global,
     items: &[RawItem],
-    in_conclusion: bool,
+    is_matched: bool,
     env: &mut Vec<Sym>,
     held: Option<TextErr>,
 ) -> Result<Option<TextErr>, NoMemory>
-    ensures fault { IfOk result (λ found. found ≡ least_from held (items_faults [] in_conclusion items.now env.old.items)) }
+    ensures fault { IfOk result (λ found. found ≡ least_from held (items_faults [] is_matched items.now env.old.items)) }
     ensures env { OnOk result (env.new.items ≡ env_behind items.now env.old.items) }
 {
     let mut known = Vec::new(alloc);
     let mut held = held;
     for item in items {
-        held = check_item(alloc, item, known.as_slice(), in_conclusion, env, held)?;
+        held = check_item(alloc, item, known.as_slice(), is_matched, env, held)?;
         push_context(&mut known, item)?;
         push_name(env, item)?;
     }
@@ -116,27 +116,27 @@ fn check_item_count(held: Option<TextErr>, items: &[RawItem]) -> Option<TextErr>
     }
 }
 
-/// The soonest of the fault that is held and those of a schema of a rule.
+/// The earliest of the fault that is held and those of a schema of a rule.
 fn check_schema(
     alloc: Global,
     raw: &RawSchema,
-    in_conclusion: bool,
+    is_matched: bool,
     held: Option<TextErr>,
 ) -> Result<Option<TextErr>, NoMemory>
-    ensures { IfOk result (λ found. found ≡ least_from held (schema_faults in_conclusion raw.now)) }
+    ensures { IfOk result (λ found. found ≡ least_from held (schema_faults is_matched raw.now)) }
 {
     let items = raw.items.as_slice();
     let held = check_item_count(held, items);
     let known = contexts(alloc, raw)?;
     let held = check_apart(held, known.as_slice(), TextWhy::TwiceContext);
     let mut env = Vec::new(alloc);
-    let held = check_items(alloc, items, in_conclusion, &mut env, held)?;
+    let held = check_items(alloc, items, is_matched, &mut env, held)?;
     let concl = &raw.concl;
     let held = check_nodes(
         alloc,
         concl,
         known.as_slice(),
-        in_conclusion,
+        is_matched,
         &mut env,
         1,
         held,
@@ -144,7 +144,7 @@ fn check_schema(
     Ok(check_size(held, schema_size(raw), raw.at))
 }
 
-/// The soonest of the fault that is held and those of a premise of a rule whose conclusion has these contexts.
+/// The earliest of the fault that is held and those of a premise of a rule whose conclusion has these contexts.
 fn check_premise(
     alloc: Global,
     raw: &RawSchema,
@@ -174,7 +174,7 @@ fn check_premises(
     Ok(held)
 }
 
-/// The soonest of the fault that is held and those of named hypotheses that don't stand behind exactly one context.
+/// The earliest of the fault that is held and those of named hypotheses that don't stand after exactly one context.
 fn check_between(held: Option<TextErr>, items: &[RawItem]) -> Option<TextErr>
     ensures { result ≡ least_from held (misplaced_faults 0 items.now) }
 {
@@ -200,7 +200,7 @@ fn check_third(held: Option<TextErr>, contexts: &[RawName]) -> Option<TextErr>
     }
 }
 
-/// The soonest of the fault that is held and those of a conclusion that has three contexts, or two with a named hypothesis
+/// The earliest of the fault that is held and those of a conclusion that has three contexts, or two with a named hypothesis
 /// that doesn't stand between them.
 #[tactic(auto, using(mp_words::proofs::Soonest::least_from_append))]
 fn check_frame(held: Option<TextErr>, raw: &RawSchema, contexts: &[RawName]) -> Option<TextErr>
@@ -215,7 +215,7 @@ fn check_frame(held: Option<TextErr>, raw: &RawSchema, contexts: &[RawName]) -> 
     }
 }
 
-/// The soonest of the fault that is held and those of the holes in a rule.
+/// The earliest of the fault that is held and those of the holes in a rule.
 fn check_rule_holes(
     alloc: Global,
     raw: &RawRule,
@@ -246,7 +246,7 @@ fn check_premise_count(held: Option<TextErr>, premises: &List<RawSchema>) -> Opt
     }
 }
 
-/// The soonest of the fault that is held and those of a rule, but that its name is taken.
+/// The earliest of the fault that is held and those of a rule, but that its name is taken.
 pub fn check_rule(
     alloc: Global,
     raw: &RawRule,

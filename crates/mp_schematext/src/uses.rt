@@ -12,7 +12,7 @@ use mp_patterntext::{Place, check_alike, gather_argument_uses, gather_uses, push
 use mp_words::TextErr;
 use std::alloc::Global;
 
-/// The soonest of the fault that is held and those of the uses in a rule: each is like the first one of its name.
+/// The earliest of the fault that is held and those of the uses in a rule: each is like the first one of its name.
 pub(crate) fn check_rule_uses(
     alloc: Global,
     raw: &RawRule,

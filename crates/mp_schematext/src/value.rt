@@ -9,7 +9,7 @@ use mp_patterntext::{build_args, build_pattern, copy_names};
 use mp_schema::{Item, Schema};
 use std::alloc::Global;
 
-/// The item that is written; the name of a hypothesis is bound behind it.
+/// The item that is written; the name of a hypothesis is bound after it.
 fn build_item(alloc: Global, raw: &RawItem, env: &mut Vec<Sym>) -> Result<Item, NoMemory>
     requires faultless { IsFaultlessItem raw.now env.old.items }
     ensures value { IfOk result (λ i. i ≡ item_of raw.now env.old.items) }

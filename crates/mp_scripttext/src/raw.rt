@@ -55,7 +55,7 @@ pub enum RawAtom {
 #[derive(Drop)]
 pub struct RawEntry {
     pub name: RawName,
-    /// The number behind `fuel`, where it stands.
+    /// The number after `fuel`, where it stands.
     pub fuel: Option<RawNumber>,
     pub goal: RawSequent,
     pub strategy: RawStrategy,

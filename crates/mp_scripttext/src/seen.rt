@@ -4,7 +4,7 @@ ghost use Rattle.mp_logic.specs.Trees.{counted};
 use mp_words::TextErr;
 
 /// What is seen on a walk over strategies that stand side by side: how many nodes they have, how deep the deepest is, and the
-/// soonest fault. The counts stop at `2^64 - 1`.
+/// earliest fault. The counts stop at `2^64 - 1`.
 #[derive(Clone, Copy)]
 pub(crate) struct Seen {
     pub nodes: u64,

@@ -145,7 +145,7 @@ fn check_shape(seen: Seen, raw: &RawEntry) -> Option<TextErr>
     held
 }
 
-/// The soonest of the fault that is held and those of a goal, but that its name is taken.
+/// The earliest of the fault that is held and those of a goal, but that its name is taken.
 fn check_entry(
     alloc: Global,
     theory: &Theory,

@@ -94,7 +94,7 @@ fn parse_strategies(alloc: Global, words: &[Word]) -> Result<(List<RawStrategy>,
     }
 }
 
-/// Reads a strategy and the parenthesis behind it.
+/// Reads a strategy and the parenthesis after it.
 #[cycle(parsing)]
 fn parse_group(alloc: Global, words: &[Word]) -> Result<(RawAtom, &[Word]), ReadFail>
     ensures reads { Reads (λ x. (x.0, x.1.now)) group words.now result }

@@ -1,11 +1,10 @@
 -- Where names that were met one after the other stand, and what is there.
-use Rattle.std.proofs.Common.{◌≡◌, ℕ, suc, ◌++◌, List, [], ◌∷◌, length, Bool, true, false, ◌||◌, nat_eq, nat_lt, Option, None, Some, is_some, slice_get, cond, refl, ap, sym, ◌∙◌, append-nil, append_assoc, arith}
+use Rattle.std.proofs.Common.{◌≡◌, ℕ, ◌++◌, List, [], ◌∷◌, Bool, true, false, ◌||◌, nat_eq, Option, None, Some, is_some, slice_get, refl, ap, sym, ◌∙◌, append-nil, append_assoc}
 use Rattle.std.specs.Prelude.{if◌then◌else◌}
 use Rattle.std.specs.Borrow.{Bor}
-use Rattle.std.specs.List.{find, flat_map, list_any, position_or_len}
+use Rattle.std.specs.List.{find, flat_map}
 use Rattle.std.specs.Option.{option_and_then, option_copied}
 use Rattle.std.specs.Slice.{IsItemAt}
-use Rattle.std.proofs.lemmas.Bool.Decides.{nat_tests}
 use Rattle.std.proofs.lemmas.Option.{slice_get_past, slice_get-get_or}
 use Rattle.mp_logic.specs.declared.sym.Sym.{Sym}
 use Rattle.mp_names.specs.Sets.{Met, is_among, is_met, place_of, with_met}
@@ -19,7 +18,7 @@ use Rattle.mp_words.specs.Seconds.{second_after, second_faults}
 use Rattle.mp_words.proofs.NoFaults.{nil_parts, no_fault}
 use Rattle.mp_steptext.specs.declared.raw.RawGiven.{RawGiven}
 use Rattle.mp_steptext.specs.Names.{all_met, AreNew, given_numbers, need_numbers}
-use Rattle.mp_steptext.specs.Statics.{all_given_faults, given_faults, given_of, need_faults, need_of}
+use Rattle.mp_steptext.specs.Statics.{all_given_faults, given_faults, given_of, need_of}
 
 -- ## Numbers
 

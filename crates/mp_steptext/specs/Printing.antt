@@ -3,7 +3,7 @@ use Rattle.std.specs.Prelude.{ℕ, ◌+◌, ◌++◌, List, [], ◌∷◌, map, 
 use Rattle.std.specs.Fmt.{decimal}
 use Rattle.mp_names.specs.Table.{text_of}
 use Rattle.mp_term.specs.declared.limits.TheConstants.{MOST_HYPOTHESES}
-use Rattle.mp_termtext.specs.Printing.{binders_text, further_text, list_text, term_text}
+use Rattle.mp_termtext.specs.Printing.{binders_text, list_text, term_text}
 use Rattle.mp_theory.specs.declared.just.Given.{Given}
 use Rattle.mp_theory.specs.declared.just.Just.{Just}
 use Rattle.mp_theory.specs.declared.just.Just.TheVariants as just

@@ -30,7 +30,7 @@ pub trait Body: Reader {
     fn arity(raw: &Self::Raw) -> u64
         ensures { result ≡ arity raw.now };
 
-    /// The soonest of the fault that is held and its own.
+    /// The earliest of the fault that is held and its own.
     fn check(
         alloc: Global,
         raw: &Self::Raw,

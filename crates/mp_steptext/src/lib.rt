@@ -3,6 +3,7 @@
 #![tactic(auto)]
 
 mod body;
+mod laws;
 mod names;
 mod print;
 mod raw;
@@ -12,6 +13,7 @@ mod term;
 mod value;
 
 pub use body::{Body, StepValue};
+pub use laws::step_round_trip_law;
 pub use print::{push_just, push_rule_step};
 pub use raw::{RawGiven, RawPlace, RawRewriteStep, RawRuleStep, RawStep};
 pub use statics::check_step;

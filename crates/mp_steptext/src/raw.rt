@@ -14,7 +14,7 @@ pub struct RawGiven<R> {
 #[derive(Drop)]
 pub struct RawRuleStep<R> {
     pub rule: RawName,
-    /// The number behind `at`, where it stands.
+    /// The number after `at`, where it stands.
     pub place: Option<RawNumber>,
     pub given: List<RawGiven<R>>,
 }

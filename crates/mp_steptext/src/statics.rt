@@ -24,7 +24,7 @@ use std::alloc::Global;
 /// The greatest number of a hypothesis.
 const MOST_HYPOTHESIS: u32 = MOST_HYPOTHESES as u32;
 
-/// The greatest number behind `at`: one more than a sequent has hypotheses.
+/// The greatest number after `at`: one more than a sequent has hypotheses.
 const MOST_PLACE: u32 = MOST_HYPOTHESIS + 1;
 
 /// The greatest number of a subterm: no operator has more of them.
@@ -93,7 +93,7 @@ fn check_need<B: Body>(
     }
 }
 
-/// Whether the names of all that is given are behind the fault that is held.
+/// Whether the names of all that is given are after the fault that is held.
 fn are_behind<R>(held: Option<TextErr>, given: &[RawGiven<R>]) -> bool
     ensures { result ≡ list_all (λ g. is_behind held g.name.at) given.now }
 {
@@ -105,7 +105,7 @@ fn are_behind<R>(held: Option<TextErr>, given: &[RawGiven<R>]) -> bool
     true
 }
 
-/// The soonest of the fault that is held and those of each one that is given. The needs have different names.
+/// The earliest of the fault that is held and those of each one that is given. The needs have different names.
 fn check_given<B: Body>(
     alloc: Global,
     held: Option<TextErr>,
@@ -123,7 +123,7 @@ fn check_given<B: Body>(
     Ok(held)
 }
 
-/// The soonest of the fault that is held and those of all that is given. The needs have different names.
+/// The earliest of the fault that is held and those of all that is given. The needs have different names.
 // Behind a fault that is held no name is looked for. So the needs of a rule are gone through only for a step that gives all of
 // them, and for the first step that doesn't.
 fn check_all_given<B: Body>(
@@ -143,7 +143,7 @@ fn check_all_given<B: Body>(
     Ok(found)
 }
 
-/// The soonest of the fault that is held and those of a step by this rule.
+/// The earliest of the fault that is held and those of a step by this rule.
 fn check_rule<B: Body>(
     alloc: Global,
     held: Option<TextErr>,
@@ -159,7 +159,7 @@ fn check_rule<B: Body>(
     Ok(found)
 }
 
-/// The soonest of the fault that is held and those of what is given by itself.
+/// The earliest of the fault that is held and those of what is given by itself.
 fn check_bodies<B: Body>(
     alloc: Global,
     given: &[RawGiven<B::Raw>],
@@ -174,7 +174,7 @@ fn check_bodies<B: Body>(
     Ok(held)
 }
 
-/// The soonest of the fault that is held and those of a step by a rule.
+/// The earliest of the fault that is held and those of a step by a rule.
 fn check_rule_step<B: Body>(
     alloc: Global,
     theory: &Theory,
@@ -202,7 +202,7 @@ fn check_hypothesis(held: Option<TextErr>, place: RawPlace) -> Option<TextErr>
     }
 }
 
-/// The soonest of the fault that is held and those of these numbers of subterms.
+/// The earliest of the fault that is held and those of these numbers of subterms.
 fn check_subterms(held: Option<TextErr>, address: &[RawNumber]) -> Option<TextErr>
     ensures { result ≡ least_from held (flat_map (number_faults 1 MOST_NODES) address.now) }
 {
@@ -213,7 +213,7 @@ fn check_subterms(held: Option<TextErr>, address: &[RawNumber]) -> Option<TextEr
     held
 }
 
-/// The soonest of the fault that is held and those of an address: of each number, and of the first one too many.
+/// The earliest of the fault that is held and those of an address: of each number, and of the first one too many.
 fn check_address(held: Option<TextErr>, address: &[RawNumber]) -> Option<TextErr>
     ensures { result ≡ least_from held (address_faults address.now) }
 {
@@ -224,7 +224,7 @@ fn check_address(held: Option<TextErr>, address: &[RawNumber]) -> Option<TextErr
     }
 }
 
-/// The soonest of the fault that is held and those of a step by a rewrite.
+/// The earliest of the fault that is held and those of a step by a rewrite.
 fn check_rewrite_step(
     theory: &Theory,
     raw: &RawRewriteStep,
@@ -238,7 +238,7 @@ fn check_rewrite_step(
     sooner_if(held, unknown, raw.rewrite.at, TextWhy::UnknownName)
 }
 
-/// The soonest of the fault that is held and those of a step.
+/// The earliest of the fault that is held and those of a step.
 pub fn check_step<B: Body>(
     alloc: Global,
     theory: &Theory,

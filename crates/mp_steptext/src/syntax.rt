@@ -63,7 +63,7 @@ fn parse_some_given<B: Reader>(
     }
 }
 
-/// Reads what is given behind `with`; nothing is where `with` doesn't stand.
+/// Reads what is given after `with`; nothing is where `with` doesn't stand.
 fn parse_given<B: Reader>(
     alloc: Global,
     words: &[Word],
@@ -88,7 +88,7 @@ fn parse_name(words: &[Word]) -> Result<(RawName, &[Word]), ReadFail>
     }
 }
 
-/// Reads what is behind `rule`: a name, `at` and a number, and what is given.
+/// Reads what is after `rule`: a name, `at` and a number, and what is given.
 fn parse_rule_step<B: Reader>(
     alloc: Global,
     words: &[Word],
@@ -147,7 +147,7 @@ fn parse_address(alloc: Global, words: &[Word]) -> Result<(List<RawNumber>, &[Wo
     }
 }
 
-/// Reads what is behind `rw`: a name, a place and an address.
+/// Reads what is after `rw`: a name, a place and an address.
 fn parse_rewrite_step(alloc: Global, words: &[Word]) -> Result<(RawRewriteStep, &[Word]), ReadFail>
     ensures reads { Reads (λ x. (x.0, x.1.now)) rewrite_step words.now result }
     ensures shorter { IfOk result (λ x. length x.1.now < length words.now) }

@@ -20,7 +20,7 @@ use std::alloc::Global;
 /// The variables `x1` to `x200` of a given term are free.
 const FREE: u32 = MOST_HYPOTHESES as u32;
 
-/// A given term behind its binders, as what steps give.
+/// A given term after its binders, as what steps give.
 pub struct GivenTerm;
 
 impl Reader for GivenTerm {
@@ -28,7 +28,7 @@ impl Reader for GivenTerm {
 
     ghost grammar = { bound };
 
-    /// Reads a term behind its binders, if any.
+    /// Reads a term after its binders, if any.
     fn read(alloc: Global, words: &[Word]) -> Result<(RawBound, &[Word]), ReadFail> {
         parse_bound(alloc, words)
     }

@@ -55,7 +55,7 @@ fn build_all_given<B: Body>(
     Ok(built)
 }
 
-/// The size of the first context: one less than the number behind `at`.
+/// The size of the first context: one less than the number after `at`.
 fn build_first(place: Option<RawNumber>) -> Option<u32>
     requires { written_number_faults 1 (MOST_HYPOTHESES + 1) place ≡ [] }
     ensures { result ≡ first_hypotheses place }

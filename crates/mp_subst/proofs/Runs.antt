@@ -1,11 +1,10 @@
 -- The levels of runs, and where a level stands in them.
-use Rattle.std.proofs.Common.{◌≡◌, ℕ, ◌+◌, ◌-◌, ◌<◌, ◌≤◌, List, [], ◌∷◌, ◌++◌, length, map, get_or, drop, zero, suc, Bool, true, false, nat_eq, nat_lt, position, IsTrue, Some, None, Result, Ok, Err, OnOk, inl, inr, refl, sym, ap, ◌∙◌, append_assoc, append-nil, arith}
+use Rattle.std.proofs.Common.{◌≡◌, ℕ, ◌+◌, ◌-◌, ◌<◌, ◌≤◌, List, [], ◌∷◌, ◌++◌, length, map, get_or, set, drop, zero, suc, Bool, true, false, nat_eq, nat_lt, position, IsTrue, Some, None, inl, inr, refl, sym, ap, ◌∙◌, append_assoc, append-nil, arith}
 use Rattle.std.specs.List.{position_or_len}
 use Rattle.std.proofs.lemmas.Bool.{cases_lt}
 use Rattle.std.proofs.lemmas.Bool.Decides.{nat_tests}
 use Rattle.std.proofs.lemmas.Grind.{common_steps}
 use Rattle.std.proofs.lemmas.List.{length-append}
-use Rattle.mp_logic.specs.declared.memory.NoMemory.{NoMemory}
 use Rattle.mp_term.specs.declared.term.Term.{Term, Var}
 use Rattle.mp_term.specs.Terms.{in_scope_of}
 use Rattle.mp_term.specs.Subst.{upto, sub_of, IsRenaming, IsFoundWhereListed}
@@ -28,20 +27,14 @@ pub run_joined : (m k n j : ℕ) → m ≤ n → n - m ≡ k → upto m (k + j) 
 run_joined m k n j low is = let e : n ≡ m + k = omega arith in rw e (sym (upto-append m k j))
 
 -- two runs stand where the last one stood
-pub run-longer : (old rest : List Run) (last r both : Run) (done : Result (Unit {0}) NoMemory) (new : List Run) → old ≡ rest ++ last ∷ [] →
-    upto both.first both.count ≡ upto last.first last.count ++ upto r.first r.count →
-    OnOk done (levels_in new ≡ levels_in rest ++ upto both.first both.count) → OnOk done (levels_in new ≡ levels_in old ++ upto r.first r.count)
-run-longer old rest last r both (Err e) new is joined made = tt
-run-longer old rest last r both (Ok u) new is joined made =
-    made ∙ ap (λ xs. levels_in rest ++ xs) joined
-    ∙ sym (ap (λ xs. levels_in xs ++ upto r.first r.count) is ∙ ap (λ xs. xs ++ upto r.first r.count) (run_added rest last) ∙ append_assoc (levels_in rest) (upto last.first last.count) (upto r.first r.count))
-
--- a run stands behind the last one
-pub run-behind : (old rest both : List Run) (last r : Run) (done : Result (Unit {0}) NoMemory) (new : List Run) → old ≡ rest ++ last ∷ [] →
-    levels_in both ≡ levels_in rest ++ upto last.first last.count → OnOk done (levels_in new ≡ levels_in both ++ upto r.first r.count) → OnOk done (levels_in new ≡ levels_in old ++ upto r.first r.count)
-run-behind old rest both last r (Err e) new is back made = tt
-run-behind old rest both last r (Ok u) new is back made =
-    made ∙ ap (λ xs. xs ++ upto r.first r.count) (back ∙ sym (ap levels_in is ∙ run_added rest last))
+pub last_joined : (rs : List Run) (k : ℕ) (last r both : Run) → k + 1 ≡ length rs → last ≡ get_or rs k last →
+    upto both.first both.count ≡ upto last.first last.count ++ upto r.first r.count → levels_in (set rs k both) ≡ levels_in rs ++ upto r.first r.count
+last_joined [] k last r both many is joined = absurd (omega (arith, many))
+last_joined (x ∷ y ∷ rs) zero last r both many is joined = absurd (omega (arith, many))
+last_joined (x ∷ []) zero last r both many is joined =
+    append-nil (upto both.first both.count) ∙ joined ∙ ap (λ (z : Run). upto z.first z.count ++ upto r.first r.count) is ∙ ap (λ xs. xs ++ upto r.first r.count) (sym (append-nil (upto x.first x.count)))
+last_joined (x ∷ rs) (suc k) last r both many is joined =
+    ap (λ xs. upto x.first x.count ++ xs) (last_joined rs k last r both (omega (arith, many)) is joined) ∙ sym (append_assoc (upto x.first x.count) (levels_in rs) (upto r.first r.count))
 
 -- the run at a place
 abbrev pub run_at : List Run → ℕ → Run

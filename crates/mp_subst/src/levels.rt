@@ -1,4 +1,4 @@
-ghost use Rattle.std.specs.Prelude.{◌≡◌, ◌++◌, ◌∷◌, [], ◌<◌, ◌^◌, length, nat_eq, position, IsTrue, IfSome, OnOk};
+ghost use Rattle.std.specs.Prelude.{◌≡◌, ◌++◌, ◌∷◌, [], ◌<◌, ◌^◌, length, nat_eq, position, IsTrue, IfSome, OnOk, OnErr};
 ghost use Rattle.mp_term.specs.Subst.{upto};
 ghost use Rattle.mp_subst.specs.Runs.{levels_in};
 
@@ -41,16 +41,18 @@ impl Levels {
         }
     }
 
-    /// Adds the level.
+    /// Adds the level. Where there is no memory the list stays.
     pub fn push(&mut self, level: u32) -> Result<(), NoMemory>
-        ensures { OnOk result (self.new ≡ self.old ++ level ∷ []) }
+        ensures ok { OnOk result (self.new ≡ self.old ++ level ∷ []) }
+        ensures err { OnErr result (self.new ≡ self.old) }
     {
         self.push_range(level, 1)
     }
 
-    /// Adds the levels from `first` on, so many of them.
+    /// Adds the levels from `first` on, so many of them. Where there is no memory the list stays.
     pub fn push_range(&mut self, first: u32, count: u64) -> Result<(), NoMemory>
-        ensures { OnOk result (self.new ≡ self.old ++ upto first count) }
+        ensures ok { OnOk result (self.new ≡ self.old ++ upto first count) }
+        ensures err { OnErr result (self.new ≡ self.old) }
     {
         push_run(&mut self.runs, Run { first, count })
     }
@@ -80,17 +82,22 @@ impl Levels {
 }
 
 // Adds the run, to the last one where it follows that.
+#[tactic(auto, using(crate::proofs::Runs::run_added))]
 fn push_run(runs: &mut Vec<Run>, run: Run) -> Result<(), NoMemory>
-    ensures { OnOk result (levels_in runs.new.items ≡ levels_in runs.old.items ++ upto run.first run.count) }
+    ensures ok { OnOk result (levels_in runs.new.items ≡ levels_in runs.old.items ++ upto run.first run.count) }
+    ensures err { OnErr result (runs.new.items ≡ runs.old.items) }
 {
-    let Some(last) = runs.pop() else {
-        return add_run(runs, run);
-    };
-    if let Some(both) = one_run(last, run) {
-        return add_run(runs, both);
+    let count = runs.len();
+    if count > 0
+        && let Some(both) = one_run(runs[count - 1], run)
+    {
+        runs[count - 1] = both;
+        return Ok(());
     }
-    add_run(runs, last)?;
-    add_run(runs, run)
+    match runs.push(run) {
+        Ok(()) => Ok(()),
+        Err(_) => Err(NoMemory),
+    }
 }
 
 // Both runs as one; None where the second doesn't follow the first.
@@ -106,16 +113,6 @@ fn one_run(first: Run, second: Run) -> Option<Run>
         first: first.first,
         count,
     })
-}
-
-#[tactic(auto, using(crate::proofs::Runs::run_added))]
-fn add_run(runs: &mut Vec<Run>, run: Run) -> Result<(), NoMemory>
-    ensures { OnOk result (levels_in runs.new.items ≡ levels_in runs.old.items ++ upto run.first run.count) }
-{
-    match runs.push(run) {
-        Ok(()) => Ok(()),
-        Err(_) => Err(NoMemory),
-    }
 }
 
 fn count_levels(runs: &[Run]) -> u32

@@ -36,9 +36,13 @@ written_param at other = None
 abbrev pub param_at : Word → Option RawParam
 param_at w = written_param w.at w.what
 
+-- param (; param)* ]
+abbrev pub some_params : Grammar Word (List RawParam)
+some_params = row (token param_at) (is_mark mark.Semicolon) (is_mark mark.CloseBracket)
+
 -- [ param (; param)* ], or nothing
 abbrev pub params : Grammar Word (List RawParam)
-params = optional (is_mark mark.OpenBracket) [] (row (token param_at) (is_mark mark.Semicolon) (is_mark mark.CloseBracket))
+params = optional (is_mark mark.OpenBracket) [] some_params
 
 -- a name begins binders exactly where `,` or `.` follows
 abbrev pub begins_binders : List Word → Bool

@@ -1,4 +1,5 @@
 pub mod Grammar
+pub mod Laws
 pub mod Printing
 pub mod Reading
 pub mod Round

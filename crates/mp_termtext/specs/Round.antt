@@ -4,6 +4,7 @@ use Rattle.std.specs.List.{list_all}
 use Rattle.mp_names.specs.Table.{AreDistinct, Extends, text_of}
 use Rattle.mp_lex.specs.declared.token.Kind.TheVariants as kind
 use Rattle.mp_lex.specs.Forms.{is_text}
+use Rattle.mp_term.specs.declared.limits.TheConstants.{MOST_DEPTH, MOST_NODES, MOST_PARAMETERS}
 use Rattle.mp_term.specs.declared.term.Param.{Param}
 use Rattle.mp_term.specs.declared.term.Param.TheVariants.{Num, Str}
 use Rattle.mp_term.specs.declared.term.Term.{Term, Term-F}
@@ -29,7 +30,7 @@ is_written_param names (Str sym) = nat_lt sym.0 (length names) && is_text kind.S
 abbrev pub written_step : List (List ℕ) → Term-F Bool Bool → Bool
 written_step names (layer.Var level) = true
 written_step names (layer.Op op params subs) =
-    is_text kind.Small (text_of names op.0) && (nat_le (length params) 16 && (list_all (is_written_param names) params && all_true subs))
+    is_text kind.Small (text_of names op.0) && (nat_le (length params) MOST_PARAMETERS && (list_all (is_written_param names) params && all_true subs))
 
 -- each operator is named by a name that begins with a small letter, and has at most 16 parameters, which can be written
 abbrev pub is_written : List (List ℕ) → Term → Bool
@@ -42,8 +43,8 @@ is_written_sequent names s = list_all (is_written names) s.hyps && is_written na
 -- the term is in its scope and within the limits, and can be written
 pub record IsPrintable (names : List (List ℕ)) (scope : ℕ) (t : Term) : Type 0 where
   pub in_scope : IsTrue (in_scope_of t scope)
-  pub shallow : depth_of t ≤ 200
-  pub small : size_of t ≤ 20000
+  pub shallow : depth_of t ≤ MOST_DEPTH
+  pub small : size_of t ≤ MOST_NODES
   pub few : IsTrue (few_binders_of t)
   pub written : IsTrue (is_written names t)
 

@@ -1,6 +1,7 @@
 -- The static rules of terms and sequents as they are written.
 use Rattle.std.specs.Prelude.{ℕ, zero, suc, ◌+◌, ◌++◌, sum, sum_by, List, [], ◌∷◌, map, Option, None, Some, Bool, true, false, nat_lt, nat_eq, if◌then◌else◌}
 use Rattle.mp_logic.specs.declared.sym.Sym.{Sym}
+use Rattle.mp_term.specs.declared.limits.TheConstants.{MOST_BINDERS, MOST_DEPTH, MOST_HYPOTHESES, MOST_NODES, MOST_PARAMETERS}
 use Rattle.mp_words.specs.declared.raw.RawName.{RawName}
 use Rattle.mp_termtext.specs.declared.raw.RawBound.{RawBound, RawBound-F, fold-RawBound}
 use Rattle.mp_termtext.specs.declared.raw.RawTerm.{RawTerm, RawTerm-F}
@@ -44,7 +45,7 @@ names_of bs = map (λ b. b.name) bs
 
 -- a node at depth over 200
 abbrev pub deep : ℕ → ℕ → List TextErr
-deep depth l = fault_if (nat_lt 200 depth) l why.TooDeep
+deep depth l = fault_if (nat_lt MOST_DEPTH depth) l why.TooDeep
 
 -- the fault of a variable without a level
 abbrev pub unless_bound : ℕ → Option ℕ → List TextErr
@@ -63,11 +64,11 @@ each_faults (s ∷ ss) env depth = s env depth ++ each_faults ss env depth
 -- the faults of a variable or an operator, by those of its subterms
 abbrev pub faults_step : ℕ → RawTerm-F Checked Checked → Checked
 faults_step free (layer.Var name k l) env depth = deep depth l ++ unless_bound l (level_of free env name k)
-faults_step free (layer.Op name ps subs l) env depth = deep depth l ++ too_many (λ p. p.at) 16 ps ++ each_faults subs env (depth + 1)
+faults_step free (layer.Op name ps subs l) env depth = deep depth l ++ too_many (λ p. p.at) MOST_PARAMETERS ps ++ each_faults subs env (depth + 1)
 
 -- the faults of a subterm, by those of its body
 abbrev pub faults_bound_step : RawBound-F Checked Checked → Checked
-faults_bound_step b env depth = too_many (λ b. b.at) 8 b.binders ++ b.body (env ++ names_of b.binders) depth
+faults_bound_step b env depth = too_many (λ b. b.at) MOST_BINDERS b.binders ++ b.body (env ++ names_of b.binders) depth
 
 -- the faults of a term where these names are bound after so many free ones, at its depth: nodes at depth over 200, more than 16 parameters, more than 8 binders, and variables that aren't bound
 abbrev pub faults_of : ℕ → RawTerm → List Sym → ℕ → List TextErr
@@ -101,11 +102,11 @@ at_of = fold-RawTerm ℕ ℕ at_step raw_size_bound_step
 
 -- the faults of a term by itself: those of its nodes, and more than 20,000 nodes
 abbrev pub term_faults : ℕ → RawTerm → List TextErr
-term_faults free t = faults_of free t [] 1 ++ fault_if (nat_lt 20000 (raw_size_of t)) (at_of t) why.TooBig
+term_faults free t = faults_of free t [] 1 ++ fault_if (nat_lt MOST_NODES (raw_size_of t)) (at_of t) why.TooBig
 
 -- the faults of a term after its binders by itself, which begins at this byte
 abbrev pub bound_term_faults : ℕ → ℕ → RawBound → List TextErr
-bound_term_faults free l b = bound_faults_of free b [] 1 ++ fault_if (nat_lt 20000 (raw_size_of b.body)) l why.TooBig
+bound_term_faults free l b = bound_faults_of free b [] 1 ++ fault_if (nat_lt MOST_NODES (raw_size_of b.body)) l why.TooBig
 
 -- the names of hypotheses
 abbrev pub hyp_names : List RawHyp → List Sym
@@ -123,5 +124,5 @@ raw_sequent_size_of s = sum_by (λ h. raw_size_of h.term) s.hyps + raw_size_of s
 -- the faults of a sequent: more than 200 hypotheses, those of its terms, and more than 20,000 nodes
 abbrev pub sequent_faults : RawSequent → List TextErr
 sequent_faults s =
-    too_many (λ h. h.at) 200 s.hyps ++ hyps_faults s.hyps [] ++ faults_of 0 s.concl (hyp_names s.hyps) 1
-    ++ fault_if (nat_lt 20000 (raw_sequent_size_of s)) s.at why.TooBig
+    too_many (λ h. h.at) MOST_HYPOTHESES s.hyps ++ hyps_faults s.hyps [] ++ faults_of 0 s.concl (hyp_names s.hyps) 1
+    ++ fault_if (nat_lt MOST_NODES (raw_sequent_size_of s)) s.at why.TooBig

@@ -1,5 +1,15 @@
+ghost use Rattle.mp_termtext.specs.Laws.{BoundByCases, ParamsByCases, SequentByCases, SubsByCases, TermByCases};
 ghost use Rattle.mp_termtext.specs.Reading.{OneTermText, OneSequentText, SomeTermText, SomeSequentText};
 ghost use Rattle.mp_termtext.specs.Round.{PrintedSequentIsRead, PrintedTermIsRead};
+
+/// What terms, parameters, subterms and sequents are as they are written, by cases.
+pub fn grammar_cases()
+    ensures term { TermByCases }
+    ensures params { ParamsByCases }
+    ensures subs { SubsByCases }
+    ensures bound { BoundByCases }
+    ensures sequent { SequentByCases }
+{}
 
 /// A text has one value or one fault, and not both.
 pub fn one_text()

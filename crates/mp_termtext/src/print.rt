@@ -34,7 +34,7 @@ pub fn push_term(out: &mut Vec<u8>, names: &Names, t: &Term, scope: u32) -> Resu
     push_in(out, names, t, scope as u64)
 }
 
-/// Appends so many binders, which are the levels from `scope` on, and behind them the one text of the term, in
+/// Appends so many binders, which are the levels from `scope` on, and after them the one text of the term, in
 /// whose scope they are. Where there is no memory, some of it may have been appended.
 pub fn push_bound_term(
     out: &mut Vec<u8>,

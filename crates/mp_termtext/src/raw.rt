@@ -9,7 +9,7 @@ pub struct RawParam {
     pub at: u32,
 }
 
-/// A subterm as it is written, behind its binders.
+/// A subterm as it is written, after its binders.
 #[cycle(raw)]
 #[derive(Drop)]
 pub struct RawBound {

@@ -19,7 +19,7 @@ fn place_in(env: &[Sym], name: Sym) -> Option<usize>
     None
 }
 
-/// The level that a variable means, where the names `env` are bound behind so many free ones, which are `x1`
+/// The level that a variable means, where the names `env` are bound after so many free ones, which are `x1`
 /// and so on. It is that of the last one that is bound under its name, and else that of the free one of its
 /// number.
 pub fn level_of(free: u32, env: &[Sym], name: Sym, numbered: Option<u32>) -> Option<u64>

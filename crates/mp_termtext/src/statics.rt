@@ -7,27 +7,16 @@ ghost use Rattle.mp_termtext.specs.Statics.{bound_faults_of, bound_term_faults, 
 use crate::scope::{level_of, push_names};
 use crate::{RawBound, RawHyp, RawSequent, RawTerm};
 use mp_logic::{List, NoMemory, Sym};
+use mp_term::limits::{MOST_BINDERS, MOST_DEPTH, MOST_HYPOTHESES, MOST_NODES, MOST_PARAMETERS};
 use mp_words::{TextErr, TextWhy, behind, sooner_of};
 use std::alloc::Global;
 
 /// The depth that stands for all that are too great.
-const TOO_DEEP: u64 = 201;
-
-/// The most parameters of an operator.
-const MOST_PARAMS: u64 = 16;
-
-/// The most binders of a subterm.
-const MOST_BINDERS: u64 = 8;
-
-/// The most hypotheses of a sequent.
-const MOST_HYPS: usize = 200;
-
-/// The most variables and operators of a sequent, or of a term by itself.
-const MOST_NODES: u64 = 20000;
+pub const TOO_DEEP: u64 = MOST_DEPTH + 1;
 
 /// The sooner one of the fault that is held and TooDeep, for a node at this depth or, at TOO_DEEP, a greater
 /// one.
-fn check_depth(held: Option<TextErr>, depth: u64, at: u32) -> Option<TextErr>
+pub fn check_depth(held: Option<TextErr>, depth: u64, at: u32) -> Option<TextErr>
     ensures { (d : ℕ) → min d TOO_DEEP ≡ depth → result ≡ least_from held (deep d at) }
 {
     if depth == TOO_DEEP {
@@ -81,7 +70,7 @@ fn check_in(
             ..
         } => {
             let mut held = check_depth(held, depth, *at);
-            if let Some(param) = params.get(MOST_PARAMS) {
+            if let Some(param) = params.get(MOST_PARAMETERS) {
                 held = sooner_of(held, param.at, TextWhy::TooMany);
             }
             let inner = depth.saturating_add(1).min(TOO_DEEP);
@@ -105,7 +94,7 @@ fn check_bound(
     ensures fault { IfOk result (λ found. (d : ℕ) → min d TOO_DEEP ≡ depth → found ≡ least_from held (bound_faults_of free raw.now env.old.items d)) }
     ensures env { OnOk result (env.new.items ≡ env.old.items) }
 {
-    let held = match raw.binders.get(MOST_BINDERS) {
+    let held = match raw.binders.get(MOST_BINDERS as u64) {
         Some(binder) => sooner_of(held, binder.at, TextWhy::TooMany),
         None => held,
     };
@@ -143,8 +132,8 @@ pub fn at_of(raw: &RawTerm) -> u32
 }
 
 /// The sooner one of the fault that is held and TooBig, for a whole of so many nodes.
-fn check_size(held: Option<TextErr>, size: u64, at: u32) -> Option<TextErr>
-    ensures { (n : ℕ) → counted n ≡ size → result ≡ least_from held (fault_if (nat_lt 20000 n) at why.TooBig) }
+pub fn check_size(held: Option<TextErr>, size: u64, at: u32) -> Option<TextErr>
+    ensures { (n : ℕ) → counted n ≡ size → result ≡ least_from held (fault_if (nat_lt MOST_NODES n) at why.TooBig) }
 {
     if size > MOST_NODES {
         sooner_of(held, at, TextWhy::TooBig)
@@ -153,7 +142,7 @@ fn check_size(held: Option<TextErr>, size: u64, at: u32) -> Option<TextErr>
     }
 }
 
-/// The soonest of the fault that is held and those of a term behind its binders that stands by itself, where so many
+/// The earliest of the fault that is held and those of a term after its binders that stands by itself, where so many
 /// names are free and which begins at this byte: more than 8 binders, the faults of the term's nodes, and
 /// more than 20,000 nodes.
 #[tactic(auto, using(mp_words::proofs::Soonest::least_from_append))]
@@ -196,7 +185,7 @@ fn hyps_size(hyps: &[RawHyp]) -> u64
     total
 }
 
-/// The soonest of the fault that is held and those of the hypotheses, each behind those before it, whose
+/// The earliest of the fault that is held and those of the hypotheses, each after those before it, whose
 /// names `env` has at the end.
 fn check_hyps(
     hyps: &[RawHyp],
@@ -219,15 +208,15 @@ fn check_hyps(
 
 /// The sooner one of the fault that is held and TooMany, at the first hypothesis that is one too many.
 fn check_count(hyps: &[RawHyp], held: Option<TextErr>) -> Option<TextErr>
-    ensures { result ≡ least_from held (too_many (λ h. h.at) 200 hyps.now) }
+    ensures { result ≡ least_from held (too_many (λ h. h.at) MOST_HYPOTHESES hyps.now) }
 {
-    match hyps.get(MOST_HYPS) {
+    match hyps.get(MOST_HYPOTHESES as usize) {
         Some(hyp) => sooner_of(held, hyp.at, TextWhy::TooMany),
         None => held,
     }
 }
 
-/// The soonest of the fault that is held and those of a sequent: more than 200 hypotheses, the faults of its
+/// The earliest of the fault that is held and those of a sequent: more than 200 hypotheses, the faults of its
 /// terms, and more than 20,000 nodes.
 #[tactic(auto, using(mp_words::proofs::Soonest::least_from_append))]
 pub fn check_sequent(

@@ -12,7 +12,7 @@ use mp_words::{
 };
 use std::alloc::Global;
 
-/// The variable at the front, and what is behind it.
+/// The variable at the front, and what is after it.
 fn variable(words: &[Word]) -> Option<(RawTerm, &[Word])>
     ensures { MatchOption result (taken variable_at words.now ≡ None) (λ p. (taken variable_at words.now ≡ Some p.0) × (p.1.now ≡ drop 1 words.now)) }
 {
@@ -26,7 +26,7 @@ fn variable(words: &[Word]) -> Option<(RawTerm, &[Word])>
     }
 }
 
-/// The number or the string at the front, and what is behind it.
+/// The number or the string at the front, and what is after it.
 pub fn param_at(words: &[Word]) -> Option<(RawParam, &[Word])>
     ensures { MatchOption result (taken param_at words.now ≡ None) (λ p. (taken param_at words.now ≡ Some p.0) × (p.1.now ≡ drop 1 words.now)) }
 {
@@ -80,7 +80,7 @@ fn binders_ahead(words: &[Word]) -> bool
     marked(rest, Mark::Comma) || marked(rest, Mark::Dot)
 }
 
-/// Reads binders and the dot behind them; there are none where no binders begin.
+/// Reads binders and the dot after them; there are none where no binders begin.
 pub fn parse_binders(alloc: Global, words: &[Word]) -> Result<(List<RawName>, &[Word]), ReadFail>
     ensures reads { Reads (λ x. (x.0, x.1.now)) binders words.now result }
     ensures within { IfOk result (λ x. length x.1.now ≤ length words.now) }

@@ -5,6 +5,7 @@ ghost use Rattle.mp_termtext.specs.Values.{IsFaultless, IsFaultlessBound, bound_
 use crate::scope::{level_of, push_names};
 use crate::{RawBound, RawHyp, RawParam, RawSequent, RawTerm};
 use mp_logic::{List, NoMemory, Shared, Sym};
+use mp_term::limits::MOST_HYPOTHESES;
 use mp_term::{Bound, Param, Sequent, Term};
 use std::alloc::Global;
 
@@ -20,7 +21,7 @@ fn values(alloc: Global, params: &List<RawParam>) -> Result<List<Param>, NoMemor
     Ok(values)
 }
 
-/// The term that is written, where the names `env` are bound behind `free` free ones, and no static rule is
+/// The term that is written, where the names `env` are bound after `free` free ones, and no static rule is
 /// broken.
 #[cycle(building)]
 pub(crate) fn build_term(
@@ -97,10 +98,10 @@ pub(crate) fn build_whole_term(alloc: Global, raw: &RawTerm, free: u32) -> Resul
     Ok(term)
 }
 
-/// The hypotheses that are written, each behind those before it, whose names `env` has at the end.
+/// The hypotheses that are written, each after those before it, whose names `env` has at the end.
 fn build_hyps(alloc: Global, hyps: &[RawHyp], env: &mut Vec<Sym>) -> Result<List<Term>, NoMemory>
     requires none { env.old.items ≡ [] }
-    requires few { length hyps.now ≤ 200 }
+    requires few { length hyps.now ≤ MOST_HYPOTHESES }
     requires faultless { hyps_faults hyps.now [] ≡ [] }
     ensures value { IfOk result (λ ts. ts ≡ hyps_value hyps.now []) }
     ensures env { OnOk result (env.new.items ≡ hyp_names hyps.now) }

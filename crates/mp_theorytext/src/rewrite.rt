@@ -26,7 +26,7 @@ fn check_condition_count(held: Option<TextErr>, conds: &[RawPattern]) -> Option<
     }
 }
 
-/// The soonest of the fault that is held and those of the nodes of a rewrite's patterns.
+/// The earliest of the fault that is held and those of the nodes of a rewrite's patterns.
 fn check_rewrite_nodes(
     alloc: Global,
     raw: &RawRewrite,
@@ -58,7 +58,7 @@ fn check_condition_sizes(held: Option<TextErr>, conds: &[RawPattern]) -> Option<
     held
 }
 
-/// The soonest of the fault that is held and those of patterns of a rewrite that are too big.
+/// The earliest of the fault that is held and those of patterns of a rewrite that are too big.
 #[tactic(auto, using(mp_words::proofs::Soonest::least_from_append))]
 fn check_rewrite_sizes(held: Option<TextErr>, raw: &RawRewrite) -> Option<TextErr>
     ensures { result ≡ least_from held (rewrite_size_faults raw.now) }
@@ -68,7 +68,7 @@ fn check_rewrite_sizes(held: Option<TextErr>, raw: &RawRewrite) -> Option<TextEr
     check_pattern_size(held, &raw.contractum)
 }
 
-/// The soonest of the fault that is held and those of the uses in a rewrite: each is like the first one of its name.
+/// The earliest of the fault that is held and those of the uses in a rewrite: each is like the first one of its name.
 fn check_rewrite_uses(
     alloc: Global,
     raw: &RawRewrite,
@@ -84,7 +84,7 @@ fn check_rewrite_uses(
     Ok(found)
 }
 
-/// The soonest of the fault that is held and those of the holes in a rewrite: each is one of the redex.
+/// The earliest of the fault that is held and those of the holes in a rewrite: each is one of the redex.
 fn check_rewrite_holes(
     alloc: Global,
     raw: &RawRewrite,
@@ -107,7 +107,7 @@ fn check_rewrite_holes(
     Ok(found)
 }
 
-/// The soonest of the fault that is held and those of the second-order variables in a rewrite: each is one of the redex.
+/// The earliest of the fault that is held and those of the second-order variables in a rewrite: each is one of the redex.
 fn check_rewrite_metas(
     alloc: Global,
     raw: &RawRewrite,
@@ -132,7 +132,7 @@ fn check_rewrite_metas(
     Ok(found)
 }
 
-/// The soonest of the fault that is held and those of a rewrite, but that its name is taken.
+/// The earliest of the fault that is held and those of a rewrite, but that its name is taken.
 #[tactic(auto, using(mp_words::proofs::Soonest::least_from_append))]
 pub(crate) fn check_rewrite(
     alloc: Global,

@@ -13,7 +13,7 @@ use mp_theory::Theory;
 use mp_words::{Named, TextErr, TextWhy, check_second, sooner_if};
 use std::alloc::Global;
 
-/// The soonest of the fault that is held and those of names that a law of the theory has.
+/// The earliest of the fault that is held and those of names that a law of the theory has.
 fn check_free(held: Option<TextErr>, theory: &Theory, raws: &[RawLaw]) -> Option<TextErr>
     ensures { result ≡ least_from held (flat_map (λ l. fault_if (name_taken theory.now (law_name l).name) (law_name l).at why.Taken) raws.now) }
 {
@@ -26,7 +26,7 @@ fn check_free(held: Option<TextErr>, theory: &Theory, raws: &[RawLaw]) -> Option
     held
 }
 
-/// The soonest of the fault that is held and those of a law, but that its name is taken.
+/// The earliest of the fault that is held and those of a law, but that its name is taken.
 fn check_law(
     alloc: Global,
     raw: &RawLaw,

@@ -25,7 +25,7 @@ fn put_first(first: RawPattern, others: List<RawPattern>) -> Result<List<RawPatt
     }
 }
 
-/// Reads what is behind the first condition: `-->`, or `&` and the other conditions up to it.
+/// Reads what is after the first condition: `-->`, or `&` and the other conditions up to it.
 fn parse_others(alloc: Global, words: &[Word]) -> Result<(List<RawPattern>, &[Word]), ReadFail>
     ensures reads { Reads (λ x. (x.0, x.1.now)) other_conditions words.now result }
     ensures within { IfOk result (λ x. length x.1.now ≤ length words.now) }

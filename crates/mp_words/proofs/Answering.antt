@@ -3,7 +3,6 @@ use Rattle.std.proofs.Common.{◌≡◌, ◌⊎◌, inl, inr, ℕ, List, [], ◌
 use Rattle.std.specs.Prelude.{unwrap_or}
 use Rattle.mp_names.specs.Table.{Extends}
 use Rattle.mp_lex.specs.declared.token.Token.{Token}
-use Rattle.mp_lex.specs.declared.token.LexWhy.{LexWhy}
 use Rattle.mp_lex.specs.Lex.{Lexing, lex}
 use Rattle.mp_words.specs.declared.word.Word.{Word}
 use Rattle.mp_words.specs.declared.fail.TextErr.{TextErr}
@@ -19,29 +18,14 @@ use Rattle.mp_words.specs.Words.{words_in}
 use Rattle.mp_words.specs.Texts.{Context, LexesText, of_lexical, error, stopped, stuck_place, static_fault, IsText, IsFaulty, bad_token, stuck_at, broken, ReadsText, OneText, SomeText}
 use Rattle.mp_words.proofs.Soonest.{least_is_least}
 
-some_tokens : (r : Lexing) (ts us : List Token) → r ≡ Ok ts → r ≡ Ok us → ts ≡ us
-some_tokens r ts us e f = cc
+one_value : {V : Type 0} (r : Result V TextErr) (u v : V) → r ≡ Ok u → r ≡ Ok v → u ≡ v
+one_value r u v e h = cc
 
-no_tokens : (r : Lexing) (ts : List Token) (f : ℕ × LexWhy) → r ≡ Ok ts → r ≡ Err f → ⊥
-no_tokens r ts f e g = cc
+not_both : {V : Type 0} (r : Result V TextErr) (v : V) (f : TextErr) → r ≡ Ok v → r ≡ Err f → ⊥
+not_both r v f e h = cc
 
-one_lexical : (r : Lexing) (f g : ℕ × LexWhy) → r ≡ Err f → r ≡ Err g → f ≡ g
-one_lexical r f g e h = cc
-
-one_some_fault : (o : Option TextErr) (f g : TextErr) → o ≡ Some f → o ≡ Some g → f ≡ g
-one_some_fault o f g e h = cc
-
-no_some_fault : (o : Option TextErr) (f : TextErr) → o ≡ None → o ≡ Some f → ⊥
-no_some_fault o f e h = cc
-
-one_read : {X : Type 0} (o : Parse Word X) (x y : X) (us vs : List Word) → o ≡ read x us → o ≡ read y vs → x ≡ y
-one_read o x y us vs e h = cc
-
-not_both : {X : Type 0} (o : Parse Word X) (x : X) (us vs : List Word) → o ≡ read x us → o ≡ stuck vs → ⊥
-not_both o x us vs e h = cc
-
-one_stop : {X : Type 0} (o : Parse Word X) (us vs : List Word) → o ≡ stuck us → o ≡ stuck vs → us ≡ vs
-one_stop o us vs e h = cc
+one_fault : {V : Type 0} (r : Result V TextErr) (f g : TextErr) → r ≡ Err f → r ≡ Err g → f ≡ g
+one_fault r f g e h = cc
 
 -- what is read as a whole leaves nothing
 none_left : {X : Type 0} (o : Parse Word X) (x : X) (rest : List Word) → then_read o (λ y us. which (some_words us) (stuck us) (read y us)) ≡ read x rest → rest ≡ []
@@ -104,36 +88,29 @@ module _ {X V : Type 0} (g : List Word → Parse Word X) (passes : Context → X
   abbrev given : List Token → Parse Word X
   given ts = whole g (words_in names source ts)
 
-  same_given : (ts us : List Token) → lex source ≡ Ok ts → lex source ≡ Ok us → given ts ≡ given us
-  same_given ts us e f = ap given (some_tokens (lex source) ts us e f)
+  abbrev refused : TextErr → Result V TextErr
+  refused e = Err e
 
-  one_value : (u v : V) → IsText g passes value names source u → IsText g passes value names source v → u ≡ v
-  one_value u v h k = h.has ∙ ap value (one_read (given h.tokens) h.raw k.raw [] [] h.is (same_given h.tokens k.tokens h.lexed k.lexed ∙ k.is)) ∙ sym k.has
+  abbrev judged : X → Option TextErr → Result V TextErr
+  judged raw None = Ok (value raw)
+  judged raw (Some e) = refused e
 
-  text_apart : (v : V) (e : TextErr) → IsText g passes value names source v → IsFaulty g passes value names source e → ⊥
-  text_apart v e h (bad_token w is a) = no_tokens (lex source) h.tokens (e.at, w) h.lexed is
-  text_apart v e h (stuck_at ts rest is s a) = not_both (given h.tokens) h.raw [] rest h.is (same_given h.tokens ts h.lexed is ∙ s)
-  text_apart v e h (broken ts raw is r l) =
-      let same = one_read (given h.tokens) h.raw raw [] [] h.is (same_given h.tokens ts h.lexed is ∙ r) in
-      no_some_fault (static_fault g passes value names source h.raw) e h.faultless (ap (static_fault g passes value names source) same ∙ l)
+  abbrev by_words : Parse Word X → Result V TextErr
+  by_words (read raw rest) = judged raw (static_fault g passes value names source raw)
+  by_words (stuck rest) = refused (error (stuck_place source rest) why.Syntax)
 
-  one_fault : (e f : TextErr) → IsFaulty g passes value names source e → IsFaulty g passes value names source f → e ≡ f
-  one_fault e f (bad_token w is a) (bad_token w' is' a') =
-      let q = one_lexical (lex source) (e.at, w) (f.at, w') is is' in
-      let at : e.at ≡ f.at = ap (λ p. p.0) q in
-      let reason : e.why ≡ f.why = a ∙ ap (λ p. of_lexical p.1) q ∙ sym a' in
-      (λ i. record { at = at i; why = reason i })
-  one_fault e f (bad_token w is a) (stuck_at ts rest is' s a') = absurd (no_tokens (lex source) ts (e.at, w) is' is)
-  one_fault e f (bad_token w is a) (broken ts raw is' r l) = absurd (no_tokens (lex source) ts (e.at, w) is' is)
-  one_fault e f (stuck_at ts rest is s a) (bad_token w is' a') = absurd (no_tokens (lex source) ts (f.at, w) is is')
-  one_fault e f (stuck_at ts rest is s a) (stuck_at us rest' is' s' a') =
-      a ∙ ap (λ vs. error (stuck_place source vs) why.Syntax) (one_stop (given ts) rest rest' s (same_given ts us is is' ∙ s')) ∙ sym a'
-  one_fault e f (stuck_at ts rest is s a) (broken us raw is' r l) = absurd (not_both (given us) raw [] rest r (same_given us ts is' is ∙ s))
-  one_fault e f (broken ts raw is r l) (bad_token w is' a') = absurd (no_tokens (lex source) ts (f.at, w) is is')
-  one_fault e f (broken ts raw is r l) (stuck_at us rest is' s a') = absurd (not_both (given ts) raw [] rest r (same_given ts us is is' ∙ s))
-  one_fault e f (broken ts raw is r l) (broken us raw' is' r' l') =
-      let same = one_read (given ts) raw raw' [] [] r (same_given ts us is is' ∙ r') in
-      one_some_fault (static_fault g passes value names source raw') e f (sym (ap (static_fault g passes value names source) same) ∙ l) l'
+  -- the value of a text with these tokens or this fault, or its fault
+  abbrev verdict : Lexing → Result V TextErr
+  verdict (Ok ts) = by_words (given ts)
+  verdict (Err f) = refused (error f.0 (of_lexical f.1))
+
+  value_is : (v : V) → IsText g passes value names source v → verdict (lex source) ≡ Ok v
+  value_is v h = ap verdict h.lexed ∙ ap by_words h.is ∙ ap (judged h.raw) h.faultless ∙ ap (λ (u : V). let r : Result V TextErr = Ok u in r) (sym h.has)
+
+  fault_is : (e : TextErr) → IsFaulty g passes value names source e → verdict (lex source) ≡ Err e
+  fault_is e (bad_token w is a) = let same : error e.at (of_lexical w) ≡ e = (λ i. record { at = e.at; why = sym a i }) in ap verdict is ∙ ap refused same
+  fault_is e (stuck_at ts rest is s a) = ap verdict is ∙ ap by_words s ∙ ap refused (sym a)
+  fault_is e (broken ts raw is r l) = ap verdict is ∙ ap by_words r ∙ ap (judged raw) l
 
   -- ## Some value or some fault
 
@@ -157,9 +134,9 @@ module _ {X V : Type 0} (g : List Word → Parse Word X) (passes : Context → X
 -- a text has one value or one fault, and not both
 pub one_text : {X V : Type 0} (g : List Word → Parse Word X) (passes : Context → X → List (List TextErr)) (value : X → V) → OneText g passes value
 one_text g passes value = record {
-  one_value = λ names source u v h k. one_value g passes value names source u v h k;
-  apart = λ names source v e h k. text_apart g passes value names source v e h k;
-  one_fault = λ names source e f h k. one_fault g passes value names source e f h k;
+  one_value = λ names source u v h k. one_value (verdict g passes value names source (lex source)) u v (value_is g passes value names source u h) (value_is g passes value names source v k);
+  apart = λ names source v e h k. not_both (verdict g passes value names source (lex source)) v e (value_is g passes value names source v h) (fault_is g passes value names source e k);
+  one_fault = λ names source e f h k. one_fault (verdict g passes value names source (lex source)) e f (fault_is g passes value names source e h) (fault_is g passes value names source f k);
 }
 
 -- a text has a value or a fault

@@ -43,17 +43,6 @@ module _ {X : Type 0} (g : Grammar Word X) (sep stop : Word → Bool) where
     abbrev behind_first : Parse Word X → Parse Word (List X)
     behind_first o = then_read (then_read o (λ x us. then_read (goes us) (λ y vs. read (pair x y) vs))) (λ p us. read (put p) us)
 
-    one_stuck : (us : List Word) → g at ≡ stuck us → levels (row_step g sep stop) (suc k) at ≡ stuck us
-    one_stuck us e = ap behind_first e
-
-    one_last : (x : X) (us : List Word) → g at ≡ read x us → fronted stop us ≡ true → levels (row_step g sep stop) (suc k) at ≡ read (x ∷ []) (drop 1 us)
-    one_last x us e t = ap behind_first e ∙ ap (λ b. with_first x (which b (read [] (drop 1 us)) (after sep (levels (row_step g sep stop) k) us))) t
-
-    one_behind : (x : X) (us : List Word) → g at ≡ read x us → fronted stop us ≡ false → fronted sep us ≡ false → levels (row_step g sep stop) (suc k) at ≡ stuck us
-    one_behind x us e t s =
-        ap behind_first e ∙ ap (λ b. with_first x (which b (read [] (drop 1 us)) (after sep (levels (row_step g sep stop) k) us))) t
-        ∙ ap (λ b. with_first x (which b (levels (row_step g sep stop) k (drop 1 us)) (stuck us))) s
-
     flat_first : (x : X) (o : Parse Word (List X)) → with_first x o ≡ then_read o (λ xs us. read (x ∷ xs) us)
     flat_first x (read xs us) = refl
     flat_first x (stuck us) = refl
@@ -64,15 +53,6 @@ module _ {X : Type 0} (g : Grammar Word X) (sep stop : Word → Bool) where
         ∙ ap (λ b. with_first x (which b (levels (row_step g sep stop) k (drop 1 us)) (stuck us))) s ∙ flat_first x (levels (row_step g sep stop) k (drop 1 us))
 
   module _ (items : List X) (at ts : List Word) where
-    pub row_stuck : (us : List Word) → RowLeft items at ts → g at ≡ stuck us → row g sep stop ts ≡ stuck us
-    row_stuck us h e = h.2 ∙ ap (joined items) (one_stuck at h.0 us e)
-
-    pub row_last : (now : List X) (x : X) (us rest : List Word) → RowLeft items at ts → now ≡ items ++ x ∷ [] → g at ≡ read x us → fronted stop us ≡ true → rest ≡ drop 1 us → row g sep stop ts ≡ read now rest
-    row_last now x us rest h n e t r = h.2 ∙ ap (joined items) (one_last at h.0 x us e t) ∙ (λ i. read (sym n i) (sym r i))
-
-    pub row_behind : (x : X) (us : List Word) → RowLeft items at ts → g at ≡ read x us → fronted stop us ≡ false → fronted sep us ≡ false → row g sep stop ts ≡ stuck us
-    row_behind x us h e t s = h.2 ∙ ap (joined items) (one_behind at h.0 x us e t s)
-
     more_by : (k : ℕ) (now : List X) (x : X) (us rest : List Word) → length at ≤ k → row g sep stop ts ≡ joined items (levels (row_step g sep stop) (suc k) at) → now ≡ items ++ x ∷ [] → g at ≡ read x us → fronted stop us ≡ false → fronted sep us ≡ true → rest ≡ drop 1 us
         → length rest < length at → RowLeft now rest ts
     more_by zero now x us rest l h n e t s r f = absurd (omega (arith, l, f))

@@ -99,7 +99,7 @@ pub fn spelled(words: &[Word], which: Keyword) -> bool
     }
 }
 
-/// The words behind the first one.
+/// The words after the first one.
 pub fn behind_front(words: &[Word]) -> &[Word]
     ensures { result.now ≡ drop 1 words.now }
 {
@@ -109,7 +109,7 @@ pub fn behind_front(words: &[Word]) -> &[Word]
     }
 }
 
-/// What is behind this mark; None where it doesn't stand at the front.
+/// What is after this mark; None where it doesn't stand at the front.
 pub fn mark(words: &[Word], which: Mark) -> Option<&[Word]>
     ensures { MatchOption result (fronted (is_mark which) words.now ≡ false) (λ rest. (fronted (is_mark which) words.now ≡ true) × (rest.now ≡ drop 1 words.now)) }
 {
@@ -120,7 +120,7 @@ pub fn mark(words: &[Word], which: Mark) -> Option<&[Word]>
     }
 }
 
-/// What is behind this word of the grammar; None where it doesn't stand at the front.
+/// What is after this word of the grammar; None where it doesn't stand at the front.
 pub fn keyword(words: &[Word], which: Keyword) -> Option<&[Word]>
     ensures { MatchOption result (fronted (is_word which) words.now ≡ false) (λ rest. (fronted (is_word which) words.now ≡ true) × (rest.now ≡ drop 1 words.now)) }
 {
@@ -131,7 +131,7 @@ pub fn keyword(words: &[Word], which: Keyword) -> Option<&[Word]>
     }
 }
 
-/// The name with a small letter at the front, and what is behind it.
+/// The name with a small letter at the front, and what is after it.
 pub fn name_at(words: &[Word]) -> Option<(RawName, &[Word])>
     ensures { MatchOption result (taken name_at words.now ≡ None) (λ p. (taken name_at words.now ≡ Some p.0) × (p.1.now ≡ drop 1 words.now)) }
 {
@@ -142,7 +142,7 @@ pub fn name_at(words: &[Word]) -> Option<(RawName, &[Word])>
     }
 }
 
-/// The name with a capital letter at the front, and what is behind it.
+/// The name with a capital letter at the front, and what is after it.
 pub fn capital_at(words: &[Word]) -> Option<(RawName, &[Word])>
     ensures { MatchOption result (taken capital_at words.now ≡ None) (λ p. (taken capital_at words.now ≡ Some p.0) × (p.1.now ≡ drop 1 words.now)) }
 {
@@ -153,7 +153,7 @@ pub fn capital_at(words: &[Word]) -> Option<(RawName, &[Word])>
     }
 }
 
-/// The second-order variable at the front, and what is behind it.
+/// The second-order variable at the front, and what is after it.
 pub fn capital_variable_at(words: &[Word]) -> Option<(RawName, &[Word])>
     ensures { MatchOption result (taken capital_variable_at words.now ≡ None) (λ p. (taken capital_variable_at words.now ≡ Some p.0) × (p.1.now ≡ drop 1 words.now)) }
 {
@@ -164,7 +164,7 @@ pub fn capital_variable_at(words: &[Word]) -> Option<(RawName, &[Word])>
     }
 }
 
-/// The number at the front, and what is behind it.
+/// The number at the front, and what is after it.
 pub fn number_at(words: &[Word]) -> Option<(RawNumber, &[Word])>
     ensures { MatchOption result (taken number_at words.now ≡ None) (λ p. (taken number_at words.now ≡ Some p.0) × (p.1.now ≡ drop 1 words.now)) }
 {

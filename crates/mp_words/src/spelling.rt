@@ -113,7 +113,7 @@ fn positive(bytes: &[u8]) -> bool
     }
 }
 
-/// The number behind `x` in the name of a variable, where it is one.
+/// The number after `x` in the name of a variable, where it is one.
 pub(crate) fn numbered(name: &[u8]) -> Option<u32>
     ensures { result ≡ numbered_of name.now }
 {

@@ -18,7 +18,7 @@ returns-in_default c =
 pub loop-hyp-preserved : goal.loop-hyp-preserved
 loop-hyp-preserved c =
     Keeping-next _ _ _ _ _ _ _ c.hyp-item.result (omega arith) c.hyp-item.is c.loop-hyp.invariant c.in-Some.term _ _ (rw (c.in-Some.is) at c.in_ok-term.ensures.inverse)
-    c.in_default-push.ensures.ok c.in_ok-push.ensures
+    c.in_default-push.ensures.ok c.in_ok-push.ensures.ok
 
 pub returns : goal.returns
 returns c = Keeping-end _ _ _ _ _ _ c.loop-hyp.hyp-index (omega arith) c.loop-hyp.invariant

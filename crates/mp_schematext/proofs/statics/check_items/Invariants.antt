@@ -8,5 +8,5 @@ use Rattle.mp_schematext.proofs.statics.check_items.Given as goal
 abbrev pub invariant-loop-item : goal.invariant-loop-item
 invariant-loop-item l = record {
   bound : env_behind (drop l.item-index l.items) l.env.items ≡ env_behind l.items l.fn.env.items;
-  found : least_from l.held (items_faults (syms_of l.known.items) l.in_conclusion (drop l.item-index l.items) l.env.items) ≡ least_from l.fn.held (items_faults [] l.in_conclusion l.items l.fn.env.items);
+  found : least_from l.held (items_faults (syms_of l.known.items) l.is_matched (drop l.item-index l.items) l.env.items) ≡ least_from l.fn.held (items_faults [] l.is_matched l.items l.fn.env.items);
 }

@@ -3,7 +3,6 @@ use Rattle.std.specs.List.{flat_map}
 use Rattle.mp_words.specs.declared.fail.TextWhy.TheVariants as why
 use Rattle.mp_words.specs.Seconds.{second_faults}
 use Rattle.mp_words.proofs.FaultParts.{two_parts}
-use Rattle.mp_steptext.specs.declared.raw.RawGiven.{RawGiven}
 use Rattle.mp_steptext.specs.Statics.{given_faults}
 use Rattle.mp_steptext.proofs.Behind.{given_behind}
 use Rattle.mp_steptext.proofs.statics.check_all_given.Goals as goal

@@ -1,6 +1,5 @@
 use Rattle.std.proofs.Common.{◌≡◌, Some, ap, sym, ◌∙◌}
 use Rattle.mp_steptext.specs.Statics.{given_of}
-use Rattle.mp_steptext.specs.Values.{body_in}
 use Rattle.mp_steptext.proofs.KeptSteps.{given_body}
 use Rattle.mp_steptext.proofs.value.build_given.Goals as goal
 

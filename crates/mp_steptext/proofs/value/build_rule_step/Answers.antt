@@ -1,6 +1,6 @@
 use Rattle.std.proofs.Common.{ap, sym, ◌∙◌}
 use Rattle.mp_steptext.specs.declared.body.StepValue.TheVariants as value
-use Rattle.mp_steptext.proofs.KeptSteps.{KeepsRule, step_keeps, value_made}
+use Rattle.mp_steptext.proofs.KeptSteps.{step_keeps, value_made}
 use Rattle.mp_steptext.proofs.value.build_rule_step.Goals as goal
 
 pub build_all_given-requires : goal.build_all_given-requires
