@@ -1,5 +1,5 @@
 -- Laws without static faults may be added to a theory, one after the other.
-use Rattle.std.proofs.Common.{true≢false, ◌≡◌, ℕ, ◌+◌, ◌<◌, ◌++◌, List, [], ◌∷◌, map, length, drop, get_or, Bool, true, false, ◌||◌, nat_eq, Option, None, Some, Err, refl, ap, sym, subst, ◌∙◌, arith}
+use Rattle.std.proofs.Common.{true≢false, ◌≡◌, ℕ, ◌+◌, ◌++◌, List, [], ◌∷◌, map, Bool, true, false, ◌||◌, nat_eq, Option, None, Some, Err, refl, ap, sym, subst, ◌∙◌, arith}
 use Rattle.std.specs.Prelude.{if◌then◌else◌}
 use Rattle.std.specs.List.{flat_map}
 use Rattle.std.proofs.lemmas.Bool.Decides.{nat_tests}
@@ -16,7 +16,6 @@ use Rattle.mp_words.specs.declared.fail.TextErr.{TextErr}
 use Rattle.mp_words.specs.Faults.{fault_if}
 use Rattle.mp_words.specs.Seconds.{second_after}
 use Rattle.mp_words.proofs.NoFaults.{nil_parts, no_fault}
-use Rattle.mp_words.proofs.Walks.{left_cons}
 use Rattle.mp_schematext.specs.declared.raw.RawRule.{RawRule}
 use Rattle.mp_schematext.specs.Statics.{rule_faults}
 use Rattle.mp_theorytext.specs.declared.raw.RawRewrite.{RawRewrite}
@@ -67,7 +66,7 @@ fewer_before before more sub (r ∷ rs) h =
     ++ fewer_before (before ++ n ∷ []) (more ++ n ∷ [])
     (λ m e. let p = or_parts (is_among more m) (is_among (n ∷ []) m) (sym (among_more more (n ∷ []) m) ∙ e) in among_more before (n ∷ []) m ∙ or_no (is_among before m) (is_among (n ∷ []) m) (sub m p.0) p.1) rs parts.1 i)
 
--- behind a law's name no other has it
+-- after a law's name no other has it
 name_free : (t : Laws) (r : RawLaw) (before : List Sym) → is_among before (law_name r).name ≡ true → (rs : List RawLaw) → taken_faults t rs ≡ [] → twice_faults before rs ≡ [] → taken_faults (with_law t r) rs ≡ []
 name_free t r before has [] h k = refl
 name_free t r before has (x ∷ rs) h k =
@@ -85,7 +84,7 @@ name_free t r before has (x ∷ rs) h k =
         let same : n.0 ≡ (law_name r).name.0 = grind (arith, nat_tests, f) in
         absurd (true≢false (sym has ∙ ap (λ (k : ℕ). is_among before (record { 0 = k })) (sym same) ∙ e))
 
--- the first of laws that may be added: it has no fault, its name is free, and the others may be added behind it
+-- the first of laws that may be added: it has no fault, its name is free, and the others may be added after it
 pub first_added : (t : Laws) (r : RawLaw) (rs : List RawLaw) → theory_faults t (r ∷ rs) ≡ [] → (law_faults r ≡ []) × (name_taken t (law_name r).name ≡ false) × (theory_faults (with_law t r) rs ≡ [])
 first_added t r rs h =
     let n = (law_name r).name in
@@ -100,16 +99,7 @@ first_added t r rs h =
       (λ i. name_free t r (n ∷ []) here rs free.1 names.1 i ++ fewer_before [] (n ∷ []) (λ m e. refl) rs names.1 i ++ own.1 i),
     )
 
--- one law further
-pub added_next : (rs : List RawLaw) (i : ℕ) (r : RawLaw) (t after whole : Laws) → i < length rs → r ≡ get_or rs i r → after ≡ with_law t r → theory_faults t (drop i rs) ≡ []
-    → (law_faults r ≡ []) × (name_taken t (law_name r).name ≡ false) × (theory_faults after (drop (i + 1) rs) ≡ [])
-added_next rs i r t after whole lt is grown h =
-    let parts = first_added t r (drop (i + 1) rs) (ap (theory_faults t) (sym (left_cons rs i r lt is)) ∙ h) in
-    (parts.0, parts.1, ap (λ u. theory_faults u (drop (i + 1) rs)) grown ∙ parts.2)
-
-pub with_next : (rs : List RawLaw) (i : ℕ) (r : RawLaw) (t after whole : Laws) → i < length rs → r ≡ get_or rs i r → after ≡ with_law t r → with_laws t (drop i rs) ≡ whole → with_laws after (drop (i + 1) rs) ≡ whole
-with_next rs i r t after whole lt is grown prev = ap (λ u. with_laws u (drop (i + 1) rs)) grown ∙ ap (with_laws t) (sym (left_cons rs i r lt is)) ∙ prev
-
+-- one law more
 pub counted : (t after : Laws) (r : RawLaw) → after ≡ with_law t r → law_count after ≡ law_count t + 1
 counted t after (law.Rule r) grown = ap law_count grown ∙ (added_rules_stand t r.name.name (map schema_of r.premises) (schema_of r.concl)).0
 counted t after (law.Rewrite r) grown = ap law_count grown ∙ (added_rewrites_stand t r.name.name (conditions_of r) (redex_of r) (contractum_of r)).0

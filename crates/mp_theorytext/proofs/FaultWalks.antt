@@ -1,5 +1,5 @@
 -- The least fault so far goes on from one part of a rewrite or a theory to the next.
-use Rattle.std.proofs.Common.{◌≡◌, ◌∷◌, ◌++◌, List, [], Option, None, map, true, false, ap, ◌∙◌}
+use Rattle.std.proofs.Common.{◌≡◌, List, [], Option, None, map, true, false, ap, ◌∙◌}
 use Rattle.std.specs.List.{flat_map}
 use Rattle.mp_logic.specs.declared.sym.Sym.{Sym}
 use Rattle.mp_theory.specs.Tables.{Laws, name_taken}

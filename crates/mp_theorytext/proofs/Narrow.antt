@@ -1,12 +1,10 @@
 -- Where no static rule is broken in a rewrite, none is broken in its patterns.
-use Rattle.std.proofs.Common.{◌≡◌, ◌≤◌, ◌+◌, ◌*◌, ◌++◌, ℕ, List, [], ◌∷◌, map, length, true, false, sym, subst, arith}
+use Rattle.std.proofs.Common.{◌≡◌, ◌++◌, List, [], map, true, false, arith}
 use Rattle.std.specs.List.{flat_map}
-use Rattle.mp_logic.specs.declared.sym.Sym.{Sym}
 use Rattle.mp_words.specs.declared.fail.TextErr.{TextErr}
 use Rattle.mp_words.specs.Faults.{too_many}
 use Rattle.mp_words.proofs.NoFaults.{nil_parts}
 use Rattle.mp_termtext.specs.Statics.{each_faults}
-use Rattle.mp_patterntext.specs.declared.raw.RawPattern.{RawPattern}
 use Rattle.mp_patterntext.specs.Buildable.{AreFaultless, IsFaultless}
 use Rattle.mp_patterntext.specs.Scopes.{syms_of}
 use Rattle.mp_patterntext.specs.Nodes.{node_faults, pattern_at}
@@ -39,13 +37,11 @@ module _ (r : RawRewrite) (h : rewrite_faults r ≡ []) where
   first : (firsts ≡ []) × (node_faults [] true r.redex [] 1 ≡ [])
   first = nil_parts firsts (node_faults [] true r.redex [] 1) last.0
 
-  pub rewrite_conds : (ps : List RawPattern) (env : List Sym) → ps ≡ r.conds → env ≡ [] → AreFaultless ps env
-  rewrite_conds ps env same none =
-      let all : AreFaultless r.conds [] = ([], false, 1, first.0, omega arith) in
-      subst (λ (q : List RawPattern × List Sym). AreFaultless q.0 q.1) (λ i. (sym same i, sym none i)) all
+  pub rewrite_conds : AreFaultless r.conds []
+  rewrite_conds = ([], false, 1, first.0, omega arith)
 
-  pub rewrite_redex : (env : List Sym) → env ≡ [] → IsFaultless r.redex env
-  rewrite_redex env none = let one : IsFaultless r.redex [] = ([], true, 1, first.1, omega arith) in subst (IsFaultless r.redex) (sym none) one
+  pub rewrite_redex : IsFaultless r.redex []
+  rewrite_redex = ([], true, 1, first.1, omega arith)
 
-  pub rewrite_contractum : (env : List Sym) → env ≡ [] → IsFaultless r.contractum env
-  rewrite_contractum env none = let one : IsFaultless r.contractum [] = ([], false, 1, last.1, omega arith) in subst (IsFaultless r.contractum) (sym none) one
+  pub rewrite_contractum : IsFaultless r.contractum []
+  rewrite_contractum = ([], false, 1, last.1, omega arith)

@@ -14,7 +14,7 @@ use Rattle.mp_theorytext.specs.Grammar.{other_conditions}
 abbrev others : Grammar Word (List RawPattern)
 others = row pattern (is_mark mark.And) (is_mark mark.Provided)
 
--- the other conditions, read behind their &
+-- the other conditions, read after their &
 pub reads_others : {X : Type 0} (view : X → List RawPattern × List Word) (ts us : List Word) → fronted (is_mark mark.Provided) ts ≡ false → fronted (is_mark mark.And) ts ≡ true → us ≡ drop 1 ts → (r : Result X ReadFail)
     → Reads view (row pattern (is_mark mark.And) (is_mark mark.Provided)) us r → Reads view other_conditions ts r
 reads_others {X} view ts us a b d r h = by r h

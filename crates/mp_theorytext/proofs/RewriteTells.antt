@@ -1,5 +1,5 @@
 -- The static rules on a rewrite as it is written are those on the rewrite that it stands for.
-use Rattle.std.proofs.Common.{◌≡◌, ℕ, ◌+◌, ◌-◌, ◌≤◌, ◌++◌, List, [], ◌∷◌, map, length, max, Bool, true, false, ◌&&◌, nat_le, nat_lt, None, refl, ap, sym, ◌∙◌, arith}
+use Rattle.std.proofs.Common.{◌≡◌, ℕ, ◌-◌, ◌≤◌, ◌++◌, List, [], ◌∷◌, map, length, Bool, true, false, ◌&&◌, nat_le, nat_lt, None, refl, ap, sym, ◌∙◌, arith}
 use Rattle.std.specs.List.{list_all, flat_map}
 use Rattle.std.proofs.lemmas.Bool.{and_parts, and_from}
 use Rattle.std.proofs.lemmas.Bool.Decides.{nat_tests}
@@ -24,7 +24,7 @@ use Rattle.mp_patterntext.specs.Nodes.{node_faults, pattern_at}
 use Rattle.mp_patterntext.specs.Sizes.{raw_pattern_size_of}
 use Rattle.mp_patterntext.specs.Uses.{hole_faults, raw_holes, uses_faults, uses_in}
 use Rattle.mp_patterntext.specs.Values.{each_pattern_value, pattern_of}
-use Rattle.mp_patterntext.proofs.Fitting.{FitArgs, FitOf, each_told, length-each, nodes_told, use_test}
+use Rattle.mp_patterntext.proofs.Fitting.{FitArgs, FitOf, each_told, length-each, nodes_told}
 use Rattle.mp_patterntext.proofs.LikeUses.{Same, each_uses, same_both, same_uses, tells_named, tells_uses}
 use Rattle.mp_patterntext.proofs.SizesAndHoles.{each_same_holes, same_holes, same_size, syms_both}
 use Rattle.mp_patterntext.proofs.Telling.{Tells, none_left, tells_both, tells_by, tells_if, tells_past}

@@ -5,7 +5,7 @@ use Rattle.mp_words.specs.declared.word.Word.{Word}
 use Rattle.mp_words.specs.declared.word.Mark.TheVariants as mark
 use Rattle.mp_words.specs.declared.word.Keyword.TheVariants as keyword
 use Rattle.mp_words.specs.declared.raw.RawName.{RawName}
-use Rattle.mp_words.specs.Grammars.{Grammar, Is, Stuck, after, both, choose, form, fronted, made, many, nothing, row}
+use Rattle.mp_words.specs.Grammars.{Grammar, after, both, choose, form, fronted, made, many, nothing, row}
 use Rattle.mp_words.specs.Fronts.{is_mark, is_word, name_behind}
 use Rattle.mp_patterntext.specs.declared.raw.RawPattern.{RawPattern}
 use Rattle.mp_patterntext.specs.Grammar.{pattern}

@@ -34,9 +34,11 @@ pub fn read_theory(
         Ok(raws) => raws,
         Err(fail) => return Err(stopped(source, fail)),
     };
+    // What is written holds all that is needed of the words, of which there are many.
+    drop(words);
     if let Some(fault) = theory_fault(alloc, &theory, &raws)? {
         return Err(TextFail::Bad(fault));
     }
-    let theory = build_theory(alloc, theory, &raws)?;
+    let theory = build_theory(alloc, theory, raws)?;
     Ok(theory)
 }
