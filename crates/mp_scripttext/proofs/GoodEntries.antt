@@ -1,5 +1,5 @@
 -- A goal without static faults can be evaluated.
-use Rattle.std.proofs.Common.{◌≡◌, ℕ, zero, suc, ◌<◌, ◌≤◌, ◌++◌, List, [], ◌∷◌, map, length, get_or, true, false, nat_le, nat_lt, Option, None, Some, refl, ap, ◌∙◌, arith}
+use Rattle.std.proofs.Common.{◌≡◌, ℕ, ◌≤◌, ◌++◌, List, [], ◌∷◌, map, length, true, false, nat_le, nat_lt, Option, None, Some, refl, arith}
 use Rattle.std.specs.Prelude.{nat_abs}
 use Rattle.std.specs.List.{flat_map, list_all}
 use Rattle.std.proofs.lemmas.Bool.{and_from, and_parts}
@@ -28,7 +28,7 @@ use Rattle.mp_scripttext.specs.Strategies.{strategy_of}
 use Rattle.mp_scripttext.specs.Values.{entry_of, fuel_of}
 use Rattle.mp_scripttext.proofs.GoodSequents.{sequent_good}
 use Rattle.mp_scripttext.proofs.RawTables.{strategy_table}
-use Rattle.mp_scripttext.proofs.Tables.{IsTable, table_fits}
+use Rattle.mp_scripttext.proofs.Tables.{table_fits}
 
 at_most : (m n : ℕ) → nat_lt n m ≡ false → m ≤ n
 at_most m n h = grind (arith, nat_tests, h)
@@ -89,7 +89,7 @@ module _ (t : Laws) (is_theory : IsTheory t) where
       let both = nil_parts (entry_faults t e) (flat_map (entry_faults t) es) h in
       (entry_good e (entry_keeps t e both.0), entries_good es both.1)
 
--- ## One goal after the other
+-- ## No goal of a script without faults has one
 
 -- where the only pass finds nothing there is no fault
 pub no_static_fault : (fs : List TextErr) → fault_of_passes (fs ∷ []) ≡ None → fs ≡ []
@@ -102,12 +102,3 @@ no_static_fault fs h = none_least fs (by (least fs) h)
 -- no goal of a script without faults has one
 pub entries_faultless : (t : Laws) (es : List RawEntry) → script_faults t es ≡ [] → flat_map (entry_faults t) es ≡ []
 entries_faultless t es h = (nil_parts (second_faults (λ (e : RawEntry). e.name) why.Taken es) (flat_map (entry_faults t) es) h).1
-
--- where no item has anything, this one has nothing
-nil_at : {X A : Type 0} (f : X → List A) (xs : List X) (i : ℕ) (x : X) → i < length xs → x ≡ get_or xs i x → flat_map f xs ≡ [] → f x ≡ []
-nil_at f [] i x lt is h = absurd (omega (arith, lt))
-nil_at f (y ∷ ys) zero x lt is h = ap f is ∙ (nil_parts (f y) (flat_map f ys) h).0
-nil_at f (y ∷ ys) (suc i) x lt is h = nil_at f ys i x (omega (arith, lt)) is (nil_parts (f y) (flat_map f ys) h).1
-
-pub entry_at : (t : Laws) (es : List RawEntry) (i : ℕ) (e : RawEntry) → i < length es → e ≡ get_or es i e → script_faults t es ≡ [] → entry_faults t e ≡ []
-entry_at t es i e lt is h = nil_at (entry_faults t) es i e lt is (entries_faultless t es h)

@@ -1,3 +1,5 @@
+mod EitherOrder
+mod GoalsKept
 mod GoodEntries
 mod GoodSequents
 mod Links
@@ -8,3 +10,4 @@ mod Sights
 mod StrategySteps
 mod StrategyUnfolds
 mod Tables
+mod WholeMade

@@ -3,7 +3,6 @@ use Rattle.std.proofs.Common.{◌≡◌, ℕ, ◌+◌, ◌≤◌, List, [], ◌�
 use Rattle.std.specs.Prelude.{nat_abs}
 use Rattle.std.proofs.lemmas.Bool.{and_from, and_parts}
 use Rattle.std.proofs.lemmas.Bool.Decides.{nat_tests}
-use Rattle.mp_strategy.specs.declared.tactic.Tac.{Tac}
 use Rattle.mp_strategy.specs.declared.tactic.Tac.TheVariants as tac
 use Rattle.mp_strategy.specs.declared.tactic.TacId.{TacId}
 use Rattle.mp_strategy.specs.Fits.{counts_fit, justs_of, parts_of, places}
@@ -14,8 +13,8 @@ use Rattle.mp_words.specs.Ranges.{number_faults}
 use Rattle.mp_words.proofs.NoFaults.{not_many, number_between}
 use Rattle.mp_scripttext.specs.declared.raw.RawPrefix.{RawPrefix}
 use Rattle.mp_scripttext.specs.declared.raw.RawPrefix.TheVariants as before
-use Rattle.mp_scripttext.specs.Strategies.{Link, Strategy, else_link, fail_alone, id_alone, linked, linked_all, numbers, over, prefix_faults, prefix_link, race_row, race_strategy, then_link, then_list_link}
-use Rattle.mp_scripttext.proofs.Tables.{AreTables, IsRowOver, IsTable, over_table}
+use Rattle.mp_scripttext.specs.Strategies.{Link, Strategy, else_link, fail_alone, id_alone, linked, linked_all, numbers, prefix_faults, prefix_link, race_row, race_strategy, then_link, then_list_link}
+use Rattle.mp_scripttext.proofs.Tables.{AreTables, IsTable, over_table}
 
 pub id_table : IsTable id_alone
 id_table = over_table (λ here. tac.Id) [] [] (record { names = λ here. refl; no_justs = λ here. refl; counts = λ e here. refl }) tt

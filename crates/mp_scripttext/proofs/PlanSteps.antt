@@ -1,6 +1,5 @@
 -- How a table of strategies grows, row by row.
-use Rattle.std.proofs.Common.{◌≡◌, ℕ, zero, suc, ◌+◌, ◌<◌, ◌≤◌, ◌++◌, List, [], ◌∷◌, map, length, length-append, set, refl, sym, ap, subst, ◌∙◌, append_assoc, append-nil, add-one, arith}
-use Rattle.std.specs.List.{flat_map}
+use Rattle.std.proofs.Common.{◌≡◌, ℕ, zero, suc, ◌+◌, ◌≤◌, ◌++◌, List, [], ◌∷◌, map, length, length-append, set, refl, sym, ap, ◌∙◌, append_assoc, append-nil, add-one, arith}
 use Rattle.std.proofs.lemmas.List.{length-map, map-append}
 use Rattle.std.proofs.Math.Seq.{set-append_seam}
 use Rattle.mp_strategy.specs.declared.limits.TheConstants.{MOST_NODES}
@@ -13,7 +12,7 @@ use Rattle.mp_words.proofs.NoFaults.{nil_parts}
 use Rattle.mp_steptext.specs.Terms.{just_of}
 use Rattle.mp_scripttext.specs.declared.plan.Plan.{Plan}
 use Rattle.mp_scripttext.specs.Plans.{HasRoom, closed, grown, holes}
-use Rattle.mp_scripttext.specs.Strategies.{Link, Strategy, linked, linked_all, faults_of_each, nodes_of, numbers, over, race_row, race_strategy, rows_of, steps_of}
+use Rattle.mp_scripttext.specs.Strategies.{Link, Strategy, linked, linked_all, faults_of_each, numbers, over, race_row, race_strategy, rows_of, steps_of}
 use Rattle.mp_scripttext.proofs.Tables.{IsTable, nodes_first}
 
 -- one strategy more

@@ -1,16 +1,14 @@
 -- What written strategies stand for are tables.
-use Rattle.std.proofs.Common.{◌≡◌, ℕ, List, [], ◌∷◌, map, length, refl, sym, ap, subst}
+use Rattle.std.proofs.Common.{List, [], ◌∷◌, map, sym, subst}
 use Rattle.std.proofs.lemmas.List.{length-map}
-use Rattle.mp_termtext.specs.declared.raw.RawBound.{RawBound}
-use Rattle.mp_steptext.specs.declared.raw.RawStep.{RawStep}
 use Rattle.mp_scripttext.specs.declared.raw.RawPrefix.{RawPrefix}
-use Rattle.mp_scripttext.specs.declared.raw.RawStrategy.{RawStrategy, RawStrategy-F, ind-RawStrategy}
-use Rattle.mp_scripttext.specs.declared.raw.RawLink.{RawLink, RawLink-F, Then, ThenL, OrElse, ind-RawLink, roll-RawLink, map-RawLink}
+use Rattle.mp_scripttext.specs.declared.raw.RawStrategy.{RawStrategy, RawStrategy-F}
+use Rattle.mp_scripttext.specs.declared.raw.RawLink.{RawLink, RawLink-F, ThenL, ind-RawLink, roll-RawLink, map-RawLink}
 use Rattle.mp_scripttext.specs.declared.raw.RawLink.TheVariants.{rolls-Then, rolls-ThenL, rolls-OrElse}
-use Rattle.mp_scripttext.specs.declared.raw.RawAtom.{RawAtom, RawAtom-F, Id, Fail, Step, Race, Prefix, Group, ind-RawAtom, roll-RawAtom, map-RawAtom}
+use Rattle.mp_scripttext.specs.declared.raw.RawAtom.{RawAtom, RawAtom-F, Race, Prefix, ind-RawAtom, roll-RawAtom, map-RawAtom}
 use Rattle.mp_scripttext.specs.declared.raw.RawAtom.TheVariants.{rolls-Id, rolls-Fail, rolls-Step, rolls-Race, rolls-Prefix, rolls-Group}
 use Rattle.mp_scripttext.specs.declared.raw.RawAtom.TheOpen as layer
-use Rattle.mp_scripttext.specs.Strategies.{Link, atom_strategy, link_of, linked_all, prefix_faults, prefix_link, strategy_of}
+use Rattle.mp_scripttext.specs.Strategies.{atom_strategy, link_of, prefix_faults, prefix_link, strategy_of}
 use Rattle.mp_scripttext.proofs.Tables.{AreTables, IsTable, step_table}
 use Rattle.mp_scripttext.proofs.Links.{AreLinks, IsLink, else_is_link, fail_table, id_table, linked_all_table, linked_table, prefix_is_link, race_table, then_is_link, then_list_is_link}
 use Rattle.mp_scripttext.proofs.RawLayers.{atom-Fail, atom-Group, atom-Id, atom-Prefix, atom-Race, atom-Step, link-OrElse, link-Then, link-ThenL, strategy-is}

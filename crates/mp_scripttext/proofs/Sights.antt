@@ -1,5 +1,5 @@
 -- What is seen of strategies, part by part.
-use Rattle.std.proofs.Common.{◌≡◌, ℕ, ◌+◌, ◌++◌, max, List, [], ◌∷◌, map, Option, refl, sym, ap, ◌∙◌, append-nil, arith}
+use Rattle.std.proofs.Common.{◌≡◌, ℕ, ◌+◌, ◌++◌, max, List, [], ◌∷◌, Option, refl, sym, ap, ◌∙◌, append-nil, arith}
 use Rattle.std.proofs.lemmas.Grind.{flat_map-append}
 use Rattle.mp_logic.specs.Trees.{counted}
 use Rattle.mp_theory.specs.Tables.{Laws}

@@ -2,7 +2,7 @@
 use Rattle.std.proofs.Common.{◌≡◌, ◌++◌, ◌<◌, Bool, ℕ, List, [], ◌∷◌, length, drop, true, false, refl, sym, ap, ◌∙◌, append_assoc, append-nil}
 use Rattle.mp_words.specs.declared.word.Word.{Word}
 use Rattle.mp_words.specs.declared.word.Keyword.TheVariants as keyword
-use Rattle.mp_words.specs.Grammars.{Parse, form, fronted, made, nowhere, pair, read, repeated, stuck, then_read, which}
+use Rattle.mp_words.specs.Grammars.{Parse, fronted, pair, read, repeated, stuck, then_read, which}
 use Rattle.mp_words.specs.Fronts.{front_at, is_word}
 use Rattle.mp_words.proofs.Steps.{RepeatedLeft, repeated_done, repeated_more, repeated_start, repeated_stuck}
 use Rattle.mp_scripttext.specs.declared.raw.RawStrategy.{RawStrategy}

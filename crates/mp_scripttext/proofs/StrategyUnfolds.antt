@@ -13,7 +13,7 @@ use Rattle.mp_scripttext.specs.declared.raw.RawPrefix.{RawPrefix}
 use Rattle.mp_scripttext.specs.declared.raw.RawPrefix.TheVariants as before
 use Rattle.mp_scripttext.specs.declared.raw.RawStrategy.{RawStrategy}
 use Rattle.mp_scripttext.specs.declared.raw.RawLink.{RawLink, Then, ThenL, OrElse}
-use Rattle.mp_scripttext.specs.declared.raw.RawAtom.{RawAtom, Id, Fail, Step, Race, Group}
+use Rattle.mp_scripttext.specs.declared.raw.RawAtom.{Id, Fail, Step, Race, Group}
 use Rattle.mp_scripttext.specs.Grammar.{argument_by, atom_by, atom_of, begins_link, chain_by, chain_of, group_by, link_by, list_by, other_by, prefix, repeat_prefix, simple_by, strategies_by, strategy, strategy_by, with_links}
 
 abbrev opens : Word → Bool

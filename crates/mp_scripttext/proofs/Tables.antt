@@ -9,7 +9,7 @@ use Rattle.std.proofs.lemmas.Grind.{flat_map-append}
 use Rattle.std.proofs.lemmas.List.Sums.{sum_by-cons}
 use Rattle.mp_logic.specs.Lists.{greatest}
 use Rattle.mp_strategy.specs.declared.tactic.Tac.{Tac}
-use Rattle.mp_strategy.specs.Fits.{counts_fit, depth_by, depths, fits_of, is_behind, justs_of, parts_of, places, row_fits, rows_fit}
+use Rattle.mp_strategy.specs.Fits.{counts_fit, depth_by, depths, fits_of, is_behind, justs_of, parts_of, places, rows_fit}
 use Rattle.mp_theory.specs.Tables.{Laws}
 use Rattle.mp_words.specs.declared.fail.TextErr.{TextErr}
 use Rattle.mp_words.proofs.NoFaults.{nil_parts}

@@ -3,7 +3,7 @@
 --   strategy = chain ("orelse" chain)*     chain = atom link*     link = "then" atom | "thenl" list     list = [ strategy (; strategy)* ]
 --   atom = prefix? argument     prefix = "try" | "repeat" Num | "progress" | "complete"
 --   argument = ( strategy ) | simple     simple = "id" | "fail" | "race" list | step
-use Rattle.std.specs.Prelude.{ℕ, ◌++◌, ◌||◌, Bool, List, [], ◌∷◌, Option, None, Some}
+use Rattle.std.specs.Prelude.{ℕ, ◌++◌, ◌||◌, Bool, List, Option, None, Some}
 use Rattle.mp_words.specs.declared.word.Word.{Word}
 use Rattle.mp_words.specs.declared.word.Mark.TheVariants as mark
 use Rattle.mp_words.specs.declared.word.Keyword.TheVariants as keyword

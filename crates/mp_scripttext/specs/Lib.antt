@@ -1,4 +1,5 @@
 pub mod Entries
+pub mod Goals
 pub mod Grammar
 pub mod Laws
 pub mod Plans

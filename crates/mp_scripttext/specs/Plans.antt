@@ -1,6 +1,5 @@
 -- How a table of strategies grows, row by row.
-use Rattle.std.specs.Prelude.{◌≡◌, ℕ, zero, suc, ◌+◌, ◌++◌, ◌<◌, ◌≤◌, sum_by, List, [], ◌∷◌, length, map, set}
-use Rattle.std.specs.List.{flat_map}
+use Rattle.std.specs.Prelude.{◌≡◌, ℕ, zero, suc, ◌+◌, ◌++◌, ◌<◌, ◌≤◌, List, [], ◌∷◌, length, map, set}
 use Rattle.mp_strategy.specs.declared.limits.TheConstants.{MOST_NODES}
 use Rattle.mp_strategy.specs.declared.tactic.Tac.{Tac}
 use Rattle.mp_strategy.specs.declared.tactic.Tac.TheVariants as tac

@@ -8,7 +8,6 @@ use Rattle.mp_strategy.specs.declared.tactic.Tac.TheVariants as tac
 use Rattle.mp_strategy.specs.declared.tactic.TacId.{TacId}
 use Rattle.mp_theory.specs.Tables.{Laws}
 use Rattle.mp_words.specs.declared.fail.TextErr.{TextErr}
-use Rattle.mp_words.specs.declared.raw.RawNumber.{RawNumber}
 use Rattle.mp_words.specs.Faults.{too_many}
 use Rattle.mp_words.specs.Ranges.{number_faults}
 use Rattle.mp_termtext.specs.declared.raw.RawBound.{RawBound}

@@ -1,6 +1,7 @@
 //! Scripts as texts: their grammar, their static rules, and the reader.
 #![tactic(auto)]
 
+mod goals;
 mod laws;
 mod making;
 mod plan;

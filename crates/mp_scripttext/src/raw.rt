@@ -1,15 +1,18 @@
 use mp_logic::{List, Shared};
 use mp_steptext::RawStep;
 use mp_termtext::{RawBound, RawSequent};
-use mp_words::{Named, RawName, RawNumber};
+use mp_words::{RawName, RawNumber};
 
 /// What stands before the argument of an atom.
 #[derive(Clone, Copy, Debug, PartialEq, Eq)]
 pub enum RawPrefix {
+    /// `try`.
     Try,
     /// `repeat` with its number.
     Repeat(RawNumber),
+    /// `progress`.
     Progress,
+    /// `complete`.
     Complete,
 }
 
@@ -40,8 +43,11 @@ pub enum RawLink {
 #[cycle(raw)]
 #[derive(Drop)]
 pub enum RawAtom {
+    /// `id`.
     Id,
+    /// `fail`.
     Fail,
+    /// A step of the theory.
     Step(RawStep<RawBound>),
     /// `race` and the strategies between its brackets.
     Race(List<RawStrategy>),
@@ -59,12 +65,4 @@ pub struct RawEntry {
     pub fuel: Option<RawNumber>,
     pub goal: RawSequent,
     pub strategy: RawStrategy,
-}
-
-impl Named for RawEntry {
-    ghost named = { λ e. e.name };
-
-    fn named(&self) -> RawName {
-        self.name
-    }
 }

@@ -3,10 +3,8 @@ ghost use Rattle.mp_names.specs.Table.{Extends};
 ghost use Rattle.mp_scripttext.specs.Entries.{EachGood};
 ghost use Rattle.mp_scripttext.specs.Reading.{ReadsScript};
 
-use crate::making::build_script;
+use crate::goals::{Goals, read_goals};
 use crate::script::Script;
-use crate::statics::script_fault;
-use crate::syntax::parse_script;
 use mp_names::Names;
 use mp_theory::Theory;
 use mp_words::{TextFail, lex_text, stopped};
@@ -31,13 +29,16 @@ pub fn read_script(
     ensures few { length names.new ≤ length names.old + length source.now }
 {
     let words = lex_text(alloc, names, source)?;
-    let raws = match parse_script(alloc, words.as_slice()) {
-        Ok(raws) => raws,
-        Err(fail) => return Err(stopped(source, fail)),
-    };
-    if let Some(fault) = script_fault(alloc, theory, &raws)? {
+    // `len` ensures that these are a theory's laws, by which the justifications are allowed.
+    let _count = theory.len();
+    let mut goals = Goals::new(alloc);
+    if let Err(fail) = read_goals(alloc, theory, &mut goals, words.as_slice()) {
+        return Err(stopped(source, fail));
+    }
+    if let Some(fault) = goals.fault(alloc)? {
         return Err(TextFail::Bad(fault));
     }
-    let script = build_script(alloc, theory, &raws)?;
-    Ok(script)
+    Ok(Script {
+        entries: goals.entries,
+    })
 }

@@ -1,18 +1,18 @@
 ghost use Rattle.std.specs.Prelude.{◌≡◌, ◌+◌, ◌∷◌, [], max, map, IfOk};
 ghost use Rattle.mp_logic.specs.Trees.{counted};
 ghost use Rattle.mp_strategy.specs.declared.limits.TheConstants.{MOST_BRANCHES};
-ghost use Rattle.mp_words.specs.Faults.{least, least_from, too_many};
-ghost use Rattle.mp_scripttext.specs.Statics.{entry_faults, script_faults, seen_of, shape_faults};
+ghost use Rattle.mp_words.specs.Faults.{least_from, too_many};
+ghost use Rattle.mp_scripttext.specs.Statics.{entry_faults, seen_of, shape_faults};
 ghost use Rattle.mp_scripttext.specs.Strategies.{Strategy, atom_strategy, deepest, link_of, nodes_of, prefix_faults, prefix_link, strategy_of};
 
 use crate::raw::{RawAtom, RawEntry, RawLink, RawPrefix, RawStrategy};
 use crate::seen::Seen;
-use mp_logic::{List, NoMemory};
+use mp_logic::NoMemory;
 use mp_steptext::{GivenTerm, check_step};
 use mp_strategy::{MOST_BRANCHES, MOST_DEPTH, MOST_FUEL, MOST_NODES, MOST_REPEATS};
 use mp_termtext::check_sequent;
 use mp_theory::Theory;
-use mp_words::{TextErr, TextWhy, check_number, check_second, check_written_number, sooner_of};
+use mp_words::{TextErr, TextWhy, check_number, check_written_number, sooner_of};
 use std::alloc::Global;
 
 /// The sooner one of the fault that is held and TooMany, at the ninth branch of a race.
@@ -146,7 +146,7 @@ fn check_shape(seen: Seen, raw: &RawEntry) -> Option<TextErr>
 }
 
 /// The earliest of the fault that is held and those of a goal, but that its name is taken.
-fn check_entry(
+pub(crate) fn check_entry(
     alloc: Global,
     theory: &Theory,
     raw: &RawEntry,
@@ -158,19 +158,4 @@ fn check_entry(
     let held = check_sequent(alloc, &raw.goal, held)?;
     let seen = see_strategy(alloc, theory, &raw.strategy, held)?;
     Ok(check_shape(seen, raw))
-}
-
-/// The least static fault of a script, in a theory. None exactly where no static rule is broken.
-pub(crate) fn script_fault(
-    alloc: Global,
-    theory: &Theory,
-    raws: &List<RawEntry>,
-) -> Result<Option<TextErr>, NoMemory>
-    ensures { IfOk result (λ found. found ≡ least (script_faults theory.now raws.now)) }
-{
-    let mut held = check_second(alloc, raws.as_slice(), TextWhy::Taken, None)?;
-    for raw in raws.as_slice() {
-        held = check_entry(alloc, theory, raw, held)?;
-    }
-    Ok(held)
 }

@@ -1,14 +1,12 @@
-ghost use Rattle.std.specs.Prelude.{◌<◌, ◌≤◌, [], length, IfOk};
-ghost use Rattle.mp_words.specs.Grammars.{whole};
+ghost use Rattle.std.specs.Prelude.{◌<◌, length, IfOk};
 ghost use Rattle.mp_words.specs.Reading.{Reads};
-ghost use Rattle.mp_scripttext.specs.Grammar.{entry, script};
+ghost use Rattle.mp_scripttext.specs.Grammar.{entry};
 
 use crate::raw::RawEntry;
 use crate::strategy::parse_strategy;
-use mp_logic::List;
 use mp_steptext::parse_number_behind;
 use mp_termtext::parse_sequent;
-use mp_words::{Keyword, Mark, ReadFail, Reader, Word, keyword, many, mark, name_behind, stuck};
+use mp_words::{Keyword, Mark, ReadFail, Reader, Word, keyword, mark, name_behind, stuck};
 use std::alloc::Global;
 
 impl Reader for RawEntry {
@@ -36,11 +34,4 @@ impl Reader for RawEntry {
         };
         Ok((entry, rest))
     }
-}
-
-/// Reads a script that is all of the words.
-pub(crate) fn parse_script(alloc: Global, words: &[Word]) -> Result<List<RawEntry>, ReadFail>
-    ensures { Reads (λ x. (x, [])) (whole script) words.now result }
-{
-    many::<RawEntry>(alloc, words)
 }

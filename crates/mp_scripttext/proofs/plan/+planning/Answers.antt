@@ -1,17 +1,16 @@
-use Rattle.std.proofs.Common.{◌≡◌, ℕ, suc, ◌<◌, ◌+◌, ◌-◌, ◌++◌, ◌∷◌, [], List, length, map, drop, get_or, rules, sym, subst, ap, ◌∙◌, append_assoc, arith}
+use Rattle.std.proofs.Common.{◌≡◌, suc, ◌<◌, ◌+◌, ◌-◌, ◌++◌, ◌∷◌, [], List, length, map, drop, rules, sym, subst, ap, ◌∙◌, append_assoc, arith}
 use Rattle.std.proofs.lemmas.List.{length-map}
 use Rattle.std.proofs.lemmas.Result.{on_ok_weaker}
 use denote.Param.Weighed.{at_most, most}
 use Rattle.mp_strategy.specs.declared.tactic.Tac.TheVariants as tac
 use Rattle.mp_words.proofs.Walks.{left_cons}
-use Rattle.mp_scripttext.specs.declared.plan.Plan.{Plan}
 use Rattle.mp_scripttext.specs.declared.raw.RawStrategy.{RawStrategy}
-use Rattle.mp_scripttext.specs.declared.raw.RawLink.{RawLink, ThenL}
+use Rattle.mp_scripttext.specs.declared.raw.RawLink.{ThenL}
 use Rattle.mp_scripttext.specs.declared.raw.RawAtom.{Race, the_lemmas}
-use Rattle.mp_scripttext.specs.Plans.{HasRoom, closed, grown, holes}
-use Rattle.mp_scripttext.specs.Strategies.{Link, Strategy, atom_strategy, link_of, linked, linked_all, nodes_of, numbers, prefix_faults, prefix_link, race_strategy, strategy_of, then_list_link}
+use Rattle.mp_scripttext.specs.Plans.{HasRoom, grown, holes}
+use Rattle.mp_scripttext.specs.Strategies.{Link, Strategy, atom_strategy, link_of, linked, linked_all, numbers, prefix_faults, prefix_link, race_strategy, strategy_of, then_list_link}
 use Rattle.mp_words.specs.Faults.{too_many}
-use Rattle.mp_scripttext.proofs.Tables.{IsTable, nodes_first}
+use Rattle.mp_scripttext.proofs.Tables.{nodes_first}
 use Rattle.mp_scripttext.proofs.Links.{linked_table, prefix_is_link}
 use Rattle.mp_scripttext.proofs.RawLayers.{atom-Prefix, atom-Race, link-ThenL, next_link, one_left, strategy-is}
 use Rattle.mp_scripttext.proofs.RawTables.{atom_table, link_table, strategy_table}

@@ -1,4 +1,4 @@
-use Rattle.std.proofs.Common.{◌≡◌, ◌+◌, ◌-◌, ◌++◌, List, length, map, drop}
+use Rattle.std.proofs.Common.{◌≡◌, ◌+◌, ◌++◌, length, map, drop}
 use Rattle.mp_scripttext.specs.Plans.{HasRoom, grown}
 use Rattle.mp_scripttext.specs.Strategies.{Strategy, link_of, linked_all, numbers, strategy_of}
 use Rattle.mp_scripttext.proofs.PlanSteps.{Stands}

@@ -1,10 +1,9 @@
-use Rattle.std.proofs.Common.{◌≡◌, ◌+◌, ◌≤◌, ◌++◌, ◌∷◌, [], List, length, map, drop, refl, ap, sym, ◌∙◌, append_assoc, append-nil, arith}
+use Rattle.std.proofs.Common.{◌≡◌, ◌+◌, ◌≤◌, ◌++◌, ◌∷◌, [], length, map, drop, refl, ap, sym, ◌∙◌, append_assoc, append-nil, arith}
 use Rattle.std.proofs.lemmas.List.{at_drop_all}
 use Rattle.std.proofs.lemmas.Result.{IfOk-weaker}
 use Rattle.mp_words.specs.Faults.{least_from, too_many}
 use Rattle.mp_words.proofs.Walks.{left_cons}
 use Rattle.mp_scripttext.specs.declared.raw.RawStrategy.{RawStrategy}
-use Rattle.mp_scripttext.specs.declared.raw.RawLink.{RawLink}
 use Rattle.mp_scripttext.specs.Statics.{seen_of}
 use Rattle.mp_scripttext.specs.Strategies.{Link, Strategy, atom_strategy, link_of, linked, linked_all, numbers, prefix_faults, prefix_link, race_row, race_strategy, strategy_of, then_list_link}
 use Rattle.mp_scripttext.proofs.RawLayers.{atom-Prefix, atom-Race, link-ThenL, next_link, strategy-is}
