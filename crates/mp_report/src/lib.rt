@@ -2,9 +2,8 @@
 #![tactic(auto)]
 
 mod refusal;
-mod result;
 mod trace;
 
+pub use mp_treetext::{push_result, result_text};
 pub use refusal::{FileKind, push_file, push_refusal, refusal_text};
-pub use result::{push_result, result_text};
 pub use trace::{push_trace, trace_text};

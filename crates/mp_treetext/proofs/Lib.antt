@@ -1,0 +1,11 @@
+mod Faultless
+mod FewFacts
+mod GoodPrinted
+mod GoodSequents
+mod Held
+mod LineFacts
+mod Passes
+mod Pieces
+mod ReadFiles
+mod RootFacts
+mod Unknown

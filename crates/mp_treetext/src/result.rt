@@ -1,16 +1,17 @@
-ghost use Rattle.std.specs.Prelude.{◌≡◌, ◌++◌, ◌+◌, [], OnOk, IfOk};
+ghost use Rattle.std.specs.Prelude.{◌≡◌, ◌++◌, ◌+◌, OnOk, IfOk};
 ghost use Rattle.mp_logic.specs.Trees.{leaf_count_of};
-ghost use Rattle.mp_theory.specs.Tables.{no_laws};
-ghost use Rattle.mp_report.specs.Results.{kind_text, leaves_text, outcome_text};
-ghost use Rattle.mp_report.specs.Results.{result_text as result_text_of};
+ghost use Rattle.mp_treetext.specs.Printed.{printed_text};
+ghost use Rattle.mp_treetext.specs.Results.{failure_text, kind_text, leaves_text, outcome_text, proof_text};
+ghost use Rattle.mp_treetext.specs.Results.{result_text as result_text_of};
 
+use crate::print::push_tree;
+use crate::printed::Printed;
 use mp_logic::{List, NoMemory, Sym, Text, Tree, leaf_count};
 use mp_names::Names;
-use mp_strategy::{Failure, Kind, Outcome};
+use mp_strategy::{Kind, Outcome, TacId};
 use mp_term::Sequent;
 use mp_termtext::{push_bytes, push_decimal, push_sequent};
 use mp_theory::{Just, Theory};
-use mp_treetext::push_tree;
 use std::alloc::Global;
 
 /// The block of a goal: its name, whether its tree is closed or how many leaves are open, and the tree's
@@ -48,6 +49,26 @@ pub fn push_result(
     push_outcome(alloc, out, names, theory, justs, outcome)
 }
 
+/// Appends the block of a goal as it was read. Where there is no memory, some of it may have been appended.
+pub fn push_printed(
+    alloc: Global,
+    out: &mut Vec<u8>,
+    names: &Names,
+    theory: &Theory,
+    name: Sym,
+    printed: &Printed,
+) -> Result<(), NoMemory>
+    ensures { OnOk result (out.new.items ≡ out.old.items ++ printed_text names.now theory.now name printed.now) }
+{
+    push_bytes(out, b"goal ")?;
+    push_bytes(out, names.text(name))?;
+    push_bytes(out, b": ")?;
+    match printed {
+        Printed::Proof { tree, justs } => push_proof(alloc, out, names, theory, justs, tree),
+        Printed::Failed { kind, tac, goal } => push_failure(out, names, *kind, *tac, goal),
+    }
+}
+
 /// Appends what stands after the goal's name.
 fn push_outcome(
     alloc: Global,
@@ -60,13 +81,27 @@ fn push_outcome(
     ensures { OnOk result (out.new.items ≡ out.old.items ++ outcome_text names.now theory.now justs.now outcome.now) }
 {
     match outcome {
-        Outcome::Tree(tree) => {
-            push_leaves(out, tree)?;
-            push_bytes(out, b"\n")?;
-            push_tree(alloc, out, names, theory, justs, tree)
+        Outcome::Tree(tree) => push_proof(alloc, out, names, theory, justs, tree),
+        Outcome::Failure(failure) => {
+            push_failure(out, names, failure.kind, failure.tac, &failure.goal)
         }
-        Outcome::Failure(failure) => push_failure(out, names, failure),
     }
+}
+
+/// Appends whether the tree is closed or how many leaves are open, and its lines.
+fn push_proof(
+    alloc: Global,
+    out: &mut Vec<u8>,
+    names: &Names,
+    theory: &Theory,
+    justs: &List<Just>,
+    tree: &Tree<Sequent>,
+) -> Result<(), NoMemory>
+    ensures { OnOk result (out.new.items ≡ out.old.items ++ proof_text names.now theory.now justs.now tree.now) }
+{
+    push_leaves(out, tree)?;
+    push_bytes(out, b"\n")?;
+    push_tree(alloc, out, names, theory, justs, tree)
 }
 
 /// Appends whether the tree is closed, or how many leaves are open.
@@ -81,20 +116,22 @@ fn push_leaves(out: &mut Vec<u8>, tree: &Tree<Sequent>) -> Result<(), NoMemory>
     push_bytes(out, b" open")
 }
 
-/// Appends the failure: its kind, the number of its strategy counted from 1, and its goal.
+/// Appends a failure: its kind, the number of its strategy counted from 1, and its goal.
 fn push_failure(
     out: &mut Vec<u8>,
     names: &Names,
-    failure: &Failure<Sequent>,
+    kind: Kind,
+    tac: TacId,
+    goal: &Sequent,
 ) -> Result<(), NoMemory>
-    ensures { OnOk result (out.new.items ≡ out.old.items ++ outcome_text names.now no_laws [] (Outcome.Failure failure.now)) }
+    ensures { OnOk result (out.new.items ≡ out.old.items ++ failure_text names.now kind tac goal.now) }
 {
     push_bytes(out, b"failed ")?;
-    push_kind(out, failure.kind)?;
+    push_kind(out, kind)?;
     push_bytes(out, b" at strategy ")?;
-    push_decimal(out, failure.tac.0 as u64 + 1)?;
+    push_decimal(out, tac.0 as u64 + 1)?;
     push_bytes(out, b" | ")?;
-    push_sequent(out, names, &failure.goal)?;
+    push_sequent(out, names, goal)?;
     push_bytes(out, b"\n")
 }
 

@@ -1,0 +1,2 @@
+/// The greatest depth of a line of a tree.
+pub const MOST_LINE_DEPTH: u64 = 400;
