@@ -1,0 +1,5 @@
+pub mod Conditions
+pub mod Finding
+pub mod Laws
+pub mod Nodes
+pub mod Verdicts
