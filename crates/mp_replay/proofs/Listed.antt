@@ -10,7 +10,7 @@ use Rattle.mp_logic.specs.declared.tree.JustId.{JustId}
 use Rattle.mp_logic.specs.Meaning.{Meaning}
 use Rattle.mp_logic.specs.Valid.{EachGoal}
 use Rattle.mp_replay.specs.Conditions.{CanReplay, IsByAllowed}
-use Rattle.mp_replay.specs.Nodes.{Node, nodes_of}
+use Rattle.mp_replay.specs.Nodes.{Node, preorder_of}
 use Rattle.mp_replay.proofs.NodeLists.{each_node, of_each_node}
 
 -- what a list has at a place within it is allowed, where each item is
@@ -32,4 +32,4 @@ module _ {G J : Type 0} (m : Meaning G J) (justs : List J) (all : list_all m.all
 
   -- a tree of good goals can be replayed, where each justification of the list is allowed and each step names one of the list
   pub can_replay : (t : Tree G) → EachGoal (λ g. IsTrue (m.good g)) t → every-Tree G P t → CanReplay m justs t
-  can_replay t goals steps = record { goals = goals; steps = of_each_node (IsByAllowed m justs) t (each_allowed (nodes_of t) (each_node P t steps)) }
+  can_replay t goals steps = record { goals = goals; steps = of_each_node (IsByAllowed m justs) t (each_allowed (preorder_of t) (each_node P t steps)) }

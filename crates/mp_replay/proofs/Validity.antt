@@ -10,7 +10,7 @@ use Rattle.mp_logic.specs.Valid.{StepHolds, IsValid}
 use Rattle.mp_replay.specs.Conditions.{CanReplay, IsByAllowed}
 use Rattle.mp_replay.specs.Finding.{Finds}
 use Rattle.mp_replay.specs.Laws.{OneVerdict, SomeVerdict, VerdictIsValidity}
-use Rattle.mp_replay.specs.Nodes.{nodes_of}
+use Rattle.mp_replay.specs.Nodes.{preorder_of}
 use Rattle.mp_replay.specs.Verdicts.{IsFirstBad, IsFirstFault, IsVerdict}
 use Rattle.mp_replay.specs.declared.verdict.BadCause.{BadCause}
 use Rattle.mp_replay.specs.declared.verdict.BadCause.TheVariants as cause
@@ -22,7 +22,7 @@ use Rattle.mp_replay.proofs.NodeLists.{each_node, of_each_node}
 module _ {G J : Type 0} (step : J → G → Outcome G) (justs : List J) (t : Tree G) (goal : G) where
   -- a tree with a bad node isn't valid
   fault_not_valid : (node : ℕ) (c : BadCause G) → IsFirstFault step justs t node c → ¬ (IsValid step justs t goal)
-  fault_not_valid node c (place, first, e) valid = none_bad step justs (nodes_of t) place c (each_node (StepHolds step justs) t valid.1) first
+  fault_not_valid node c (place, first, e) valid = none_bad step justs (preorder_of t) place c (each_node (StepHolds step justs) t valid.1) first
 
   -- a tree that is called bad isn't valid for the goal
   pub bad_not_valid : (node : ℕ) (c : BadCause G) → IsVerdict step justs t goal (verdict.Bad node c) → ¬ (IsValid step justs t goal)
@@ -33,7 +33,7 @@ module _ {G J : Type 0} (step : J → G → Outcome G) (justs : List J) (t : Tre
   -- a tree has at most one first bad node, and it is bad by one cause
   one_fault : (n k : ℕ) (c d : BadCause G) → IsFirstFault step justs t n c → IsFirstFault step justs t k d → (n ≡ k) × (c ≡ d)
   one_fault n k c d (p, first, e) (q, other, f) =
-      let both = one_first step justs (nodes_of t) p q c d first other in
+      let both = one_first step justs (preorder_of t) p q c d first other in
       (e ∙ ap (λ n. counted (n + 1)) both.0 ∙ sym f, both.1)
 
   -- bad nodes of the same number and cause give the same verdict
@@ -65,12 +65,12 @@ module _ {G J : Type 0} (step : J → G → Outcome G) (justs : List J) (t : Tre
   one (verdict.Bad n c) (verdict.Bad k d) a b = one_bad n k c d a b
 
   -- a tree for the goal in which a walk finds nothing is valid
-  pub valid_found : (now : ℕ) → root_of t ≡ goal → Finds step justs (nodes_of t) 0 None now → IsValid step justs t goal
+  pub valid_found : (now : ℕ) → root_of t ≡ goal → Finds step justs (preorder_of t) 0 None now → IsValid step justs t goal
   valid_found now same (sound, e) = (same, of_each_node (StepHolds step justs) t sound)
 
   -- what a walk from 0 finds in a tree for the goal is the verdict
-  pub bad_found : (c : BadCause G) (now : ℕ) → root_of t ≡ goal → Finds step justs (nodes_of t) 0 (Some c) now → IsVerdict step justs t goal (verdict.Bad now c)
-  bad_found cause.Goal now same (place, first, e) = absurd (not_goal step justs (nodes_of t) place first)
+  pub bad_found : (c : BadCause G) (now : ℕ) → root_of t ≡ goal → Finds step justs (preorder_of t) 0 (Some c) now → IsVerdict step justs t goal (verdict.Bad now c)
+  bad_found cause.Goal now same (place, first, e) = absurd (not_goal step justs (preorder_of t) place first)
   bad_found (cause.Refused why) now same (place, first, e) = (same, (place, first, omega arith))
   bad_found (cause.Kids found due) now same (place, first, e) = (same, (place, first, omega arith))
 
@@ -110,19 +110,19 @@ module _ {G J : Type 0} (m : Meaning G J) where
     of_count (suc n) e valid = (verdict.OpenLeaves (counted (leaf_count_of t)), (valid, (λ none. omega arith), refl))
 
     -- a tree for the goal that has a first bad node is called bad
-    of_fault : (place : ℕ) (c : BadCause G) → root_of t ≡ goal → IsFirstBad m.step justs (nodes_of t) place c → AVerdict
-    of_fault place cause.Goal same first = absurd (not_goal m.step justs (nodes_of t) place first)
+    of_fault : (place : ℕ) (c : BadCause G) → root_of t ≡ goal → IsFirstBad m.step justs (preorder_of t) place c → AVerdict
+    of_fault place cause.Goal same first = absurd (not_goal m.step justs (preorder_of t) place first)
     of_fault place (cause.Refused why) same first = (verdict.Bad (counted (place + 1)) (cause.Refused why), (same, (place, first, refl)))
     of_fault place (cause.Kids found due) same first = (verdict.Bad (counted (place + 1)) (cause.Kids found due), (same, (place, first, refl)))
 
     -- the verdict on a tree for the goal, by its nodes
-    of_nodes : root_of t ≡ goal → AllByRecursion (StepHolds m.step justs) (nodes_of t) ⊎ SomeFirst m lawful justs (nodes_of t) → AVerdict
+    of_nodes : root_of t ≡ goal → AllByRecursion (StepHolds m.step justs) (preorder_of t) ⊎ SomeFirst m lawful justs (preorder_of t) → AVerdict
     of_nodes same (inl sound) = of_count (leaf_count_of t) refl (same, of_each_node (StepHolds m.step justs) t sound)
     of_nodes same (inr (place, c, first)) = of_fault place c same first
 
     -- the verdict on a tree, by its goal
     of_root : CanReplay m justs t → (root_of t ≡ goal) ⊎ (root_of t ≢ goal) → AVerdict
-    of_root can (inl same) = of_nodes same (sound_or_first m lawful justs (nodes_of t) (each_node (IsByAllowed m justs) t can.steps))
+    of_root can (inl same) = of_nodes same (sound_or_first m lawful justs (preorder_of t) (each_node (IsByAllowed m justs) t can.steps))
     of_root can (inr differ) = (verdict.Bad 1 cause.Goal, (differ, refl))
 
   -- of a tree that can be replayed and a goal there is a verdict

@@ -9,10 +9,10 @@ use Rattle.mp_logic.specs.Steps.{Outcome}
 use Rattle.mp_logic.specs.Trees.{counted}
 use Rattle.mp_logic.specs.Valid.{StepHolds}
 use Rattle.mp_replay.specs.Finding.{Finds}
-use Rattle.mp_replay.specs.Nodes.{Node, nodes_of}
+use Rattle.mp_replay.specs.Nodes.{Node, preorder_of}
 use Rattle.mp_replay.specs.Verdicts.{IsBad}
 use Rattle.mp_replay.specs.declared.verdict.BadCause.{BadCause}
-use Rattle.mp_replay.proofs.NodeLists.{all_append, nodes_of-Step}
+use Rattle.mp_replay.proofs.NodeLists.{all_append, preorder_of-Step}
 
 module _ {G J : Type 0} (step : J → G → Outcome G) (justs : List J) where
   -- a walk that begins at a bad node finds it
@@ -63,37 +63,37 @@ module _ {G J : Type 0} (step : J → G → Outcome G) (justs : List J) where
 
   module _ (g : G) (just : JustId) (kids : List (Tree G)) (t : Tree G) (seen mid : ℕ) (is : t ≡ Step g just kids) where
     -- the nodes of the tree: the step, and those of its kids
-    nodes : nodes_of t ≡ layer.Step g just kids ∷ flat_map nodes_of kids
-    nodes = ap nodes_of is ∙ nodes_of-Step g just kids
+    nodes : preorder_of t ≡ layer.Step g just kids ∷ flat_map preorder_of kids
+    nodes = ap preorder_of is ∙ preorder_of-Step g just kids
 
     -- a bad step is found first
-    pub begins_bad : (c : BadCause G) → IsBad step justs (layer.Step g just kids) c → mid ≡ counted (seen + 1) → Finds step justs (nodes_of t) seen (Some c) mid
-    begins_bad c bad e = subst (λ ns. Finds step justs ns seen (Some c) mid) (sym nodes) (finds_here (layer.Step g just kids) (flat_map nodes_of kids) seen mid c bad e)
+    pub begins_bad : (c : BadCause G) → IsBad step justs (layer.Step g just kids) c → mid ≡ counted (seen + 1) → Finds step justs (preorder_of t) seen (Some c) mid
+    begins_bad c bad e = subst (λ ns. Finds step justs ns seen (Some c) mid) (sym nodes) (finds_here (layer.Step g just kids) (flat_map preorder_of kids) seen mid c bad e)
 
     -- after a step that holds the nodes of its kids are left
-    pub begins : StepHolds step justs (layer.Step g just kids) → mid ≡ counted (seen + 1) → GoesOn (flat_map nodes_of kids) mid (nodes_of t) seen
+    pub begins : StepHolds step justs (layer.Step g just kids) → mid ≡ counted (seen + 1) → GoesOn (flat_map preorder_of kids) mid (preorder_of t) seen
     begins holds e found now later =
         subst (λ ns. Finds step justs ns seen found now) (sym nodes)
-        (finds_rest (layer.Step g just kids ∷ []) (flat_map nodes_of kids) seen mid (finds_none (layer.Step g just kids) seen mid holds e) found now later)
+        (finds_rest (layer.Step g just kids ∷ []) (flat_map preorder_of kids) seen mid (finds_none (layer.Step g just kids) seen mid holds e) found now later)
 
-  module _ (kid : Tree G) (kids rest : List (Tree G)) (is : kids ≡ kid ∷ rest) (nodes : List (Node G)) (seen mid now : ℕ) (on : GoesOn (flat_map nodes_of kids) mid nodes seen) where
+  module _ (kid : Tree G) (kids rest : List (Tree G)) (is : kids ≡ kid ∷ rest) (nodes : List (Node G)) (seen mid now : ℕ) (on : GoesOn (flat_map preorder_of kids) mid nodes seen) where
     -- the nodes of the kids: those of the first one, and those of the rest
-    first_nodes : flat_map nodes_of kids ≡ nodes_of kid ++ flat_map nodes_of rest
-    first_nodes = ap (λ ks. flat_map nodes_of ks) is
+    first_nodes : flat_map preorder_of kids ≡ preorder_of kid ++ flat_map preorder_of rest
+    first_nodes = ap (λ ks. flat_map preorder_of ks) is
 
     -- where nothing is found in a kid, the walk goes on over those after it
-    pub goes_on_after : Finds step justs (nodes_of kid) mid None now → GoesOn (flat_map nodes_of rest) now nodes seen
+    pub goes_on_after : Finds step justs (preorder_of kid) mid None now → GoesOn (flat_map preorder_of rest) now nodes seen
     goes_on_after none found after later =
-        on found after (subst (λ ns. Finds step justs ns mid found after) (sym first_nodes) (finds_rest (nodes_of kid) (flat_map nodes_of rest) mid now none found after later))
+        on found after (subst (λ ns. Finds step justs ns mid found after) (sym first_nodes) (finds_rest (preorder_of kid) (flat_map preorder_of rest) mid now none found after later))
 
     -- what is found in a kid is found
-    pub finds_in_kid : (c : BadCause G) → Finds step justs (nodes_of kid) mid (Some c) now → Finds step justs nodes seen (Some c) now
-    finds_in_kid c some = on (Some c) now (subst (λ ns. Finds step justs ns mid (Some c) now) (sym first_nodes) (finds_first (nodes_of kid) (flat_map nodes_of rest) mid now c some))
+    pub finds_in_kid : (c : BadCause G) → Finds step justs (preorder_of kid) mid (Some c) now → Finds step justs nodes seen (Some c) now
+    finds_in_kid c some = on (Some c) now (subst (λ ns. Finds step justs ns mid (Some c) now) (sym first_nodes) (finds_first (preorder_of kid) (flat_map preorder_of rest) mid now c some))
 
   -- where no kid is left, nothing is found
-  pub finds_no_more : (kids : List (Tree G)) (i : ℕ) (nodes : List (Node G)) (seen mid : ℕ) → length kids ≤ i → mid < 2 ^ 64 → GoesOn (flat_map nodes_of (drop i kids)) mid nodes seen → Finds step justs nodes seen None mid
+  pub finds_no_more : (kids : List (Tree G)) (i : ℕ) (nodes : List (Node G)) (seen mid : ℕ) → length kids ≤ i → mid < 2 ^ 64 → GoesOn (flat_map preorder_of (drop i kids)) mid nodes seen → Finds step justs nodes seen None mid
   finds_no_more kids i nodes seen mid past fits on =
-      on None mid (subst (λ ks. Finds step justs (flat_map nodes_of ks) mid None mid) (sym (drop_all i kids past)) (tt, omega arith))
+      on None mid (subst (λ ks. Finds step justs (flat_map preorder_of ks) mid None mid) (sym (drop_all i kids past)) (tt, omega arith))
 
 -- the items from i on are item i and those after it
 pub drop_first : {A : Type 0} (xs : List A) (i : ℕ) (x : A) → i < length xs → x ≡ get_or xs i x → drop i xs ≡ x ∷ drop (i + 1) xs

@@ -22,5 +22,5 @@ nodes_step (layer.Step g just kids) =
     (Step g just trees, layer.Step g just trees ∷ flat_map (λ kid. kid.1) kids)
 
 -- the leaves and steps of a tree in preorder
-abbrev pub nodes_of : {G : Type 0} → Tree G → List (Node G)
-nodes_of {G} t = (fold-Tree G (WithNodes G) nodes_step t).1
+abbrev pub preorder_of : {G : Type 0} → Tree G → List (Node G)
+preorder_of {G} t = (fold-Tree G (WithNodes G) nodes_step t).1

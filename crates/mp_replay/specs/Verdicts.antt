@@ -6,7 +6,7 @@ use Rattle.mp_logic.specs.declared.tree.Tree.TheOpen as layer
 use Rattle.mp_logic.specs.Steps.{Outcome}
 use Rattle.mp_logic.specs.Trees.{root_of, leaf_count_of, counted}
 use Rattle.mp_logic.specs.Valid.{StepHolds, IsValid}
-use Rattle.mp_replay.specs.Nodes.{Node, nodes_of}
+use Rattle.mp_replay.specs.Nodes.{Node, preorder_of}
 use Rattle.mp_replay.specs.declared.verdict.BadCause.{BadCause}
 use Rattle.mp_replay.specs.declared.verdict.BadCause.TheVariants as cause
 use Rattle.mp_replay.specs.declared.verdict.Verdict.{Verdict}
@@ -33,7 +33,7 @@ module _ {G J : Type 0} (step : J → G → Outcome G) (justs : List J) where
 
   -- this node is the tree's first bad one, counted from 1 in preorder, and this is wrong with it
   abbrev pub IsFirstFault : Tree G → ℕ → BadCause G → Type 0
-  IsFirstFault t node c = (place : ℕ) × IsFirstBad (nodes_of t) place c × (node ≡ counted (place + 1))
+  IsFirstFault t node c = (place : ℕ) × IsFirstBad (preorder_of t) place c × (node ≡ counted (place + 1))
 
   -- the verdict on a tree: whether it is valid for the goal, with how many open leaves; else where and why it isn't. That the tree is for
   -- another goal comes first, and is said of node 1

@@ -4,7 +4,7 @@ ghost use Rattle.mp_logic.specs.Trees.{root_of};
 ghost use Rattle.mp_logic.specs.Valid.{StepHolds};
 ghost use Rattle.mp_replay.specs.Conditions.{CanReplay, IsByAllowed};
 ghost use Rattle.mp_replay.specs.Finding.{Finds};
-ghost use Rattle.mp_replay.specs.Nodes.{nodes_of};
+ghost use Rattle.mp_replay.specs.Nodes.{preorder_of};
 ghost use Rattle.mp_replay.specs.Verdicts.{IsBad, IsVerdict};
 
 use crate::{BadCause, Verdict};
@@ -51,7 +51,7 @@ fn first_fault<L: Logic>(
     seen: &mut u64,
 ) -> Result<Option<BadCause<L::Goal>>, NoMemory>
     requires { CanReplay (L.meaning logic.now) justs.now tree.now }
-    ensures { IfOk result (λ found. Finds (L.meaning logic.now).step justs.now (nodes_of tree.now) seen.old found seen.new) }
+    ensures { IfOk result (λ found. Finds (L.meaning logic.now).step justs.now (preorder_of tree.now) seen.old found seen.new) }
 {
     *seen = seen.saturating_add(1);
     match tree {

@@ -12,7 +12,7 @@ use Rattle.mp_treetext.specs.declared.raw.RawFailure.{RawFailure}
 use Rattle.mp_treetext.specs.declared.raw.RawState.TheVariants as state
 use Rattle.mp_treetext.specs.declared.raw.RawTreeLine.{RawTreeLine}
 use Rattle.mp_treetext.specs.declared.statics.Stand.{Stand}
-use Rattle.mp_treetext.specs.Statics.{block_faults, block_names, content_faults, failure_faults, file_faults, is_due, order_faults, stand_faults, stand_of, state_faults, tree_lines_faults, unknown_faults}
+use Rattle.mp_treetext.specs.Statics.{block_faults, block_names, content_faults, failure_faults, file_faults, is_due, order_faults, stand_faults, stand_of, state_faults, tree_lines_faults, unknown_goal_faults}
 
 -- where no item has anything, this one has nothing
 pub nil_at : {X A : Type 0} (f : X → List A) (xs : List X) (i : ℕ) (x : X) → i < length xs → x ≡ get_or xs i x → flat_map f xs ≡ [] → f x ≡ []
@@ -61,6 +61,6 @@ pub record FileKeeps (t : Laws) (goals : List Sym) (source : List ℕ) (bs : Lis
 pub file_keeps : (t : Laws) (goals : List Sym) (source : List ℕ) (bs : List RawBlock) → file_faults t goals source bs ≡ [] → FileKeeps t goals source bs
 file_keeps t goals source bs h =
     let ns = block_names bs in
-    let both = nil_parts (flat_map (unknown_faults goals) ns ++ order_faults (length source) goals ns) (flat_map (block_faults t source) bs) h in
-    let names = nil_parts (flat_map (unknown_faults goals) ns) (order_faults (length source) goals ns) both.0 in
+    let both = nil_parts (flat_map (unknown_goal_faults goals) ns ++ order_faults (length source) goals ns) (flat_map (block_faults t source) bs) h in
+    let names = nil_parts (flat_map (unknown_goal_faults goals) ns) (order_faults (length source) goals ns) both.0 in
     record { blocks = both.1; many = sym (length-names bs) ∙ names_fit (length source) goals ns names.1 }

@@ -27,7 +27,7 @@ use Rattle.mp_treetext.specs.declared.raw.RawTreeLine.{RawTreeLine}
 use Rattle.mp_treetext.specs.declared.roots.Line.{Line}
 use Rattle.mp_treetext.specs.declared.roots.Root.{Root}
 use Rattle.mp_treetext.specs.Printed.{EachGoodPrinted, IsByOne, IsGoodPrinted, IsGoodProof}
-use Rattle.mp_treetext.specs.Statics.{block_faults, content_faults, is_count, missing_tree_faults, node_faults, open_lines, state_faults, tree_lines_faults}
+use Rattle.mp_treetext.specs.Statics.{block_faults, content_faults, is_count, missing_tree_faults, written_faults, open_lines, state_faults, tree_lines_faults}
 use Rattle.mp_treetext.specs.Values.{block_value, file_value, just_number, justs_of, kids_of, lines_of, next_number, others_of, printed_of, roots_of, step_justs, tree_of, tree_with}
 use Rattle.mp_treetext.proofs.Faultless.{block_parts, contents_faultless}
 use Rattle.mp_treetext.proofs.GoodSequents.{sequent_good}
@@ -95,7 +95,7 @@ module _ (t : Laws) (source : List ℕ) where
   lines_good n [] h = tt
   lines_good n (l ∷ ls) h =
       let both = nil_parts (content_faults t l) (flat_map (content_faults t) ls) h in
-      (sequent_good l.goal (nil_parts (node_faults t l.step) (sequent_faults l.goal) both.0).1, lines_good (next_number n l.step) ls both.1)
+      (sequent_good l.goal (nil_parts (written_faults t l.step) (sequent_faults l.goal) both.0).1, lines_good (next_number n l.step) ls both.1)
 
   lines_below : (count n : ℕ) (ls : List RawTreeLine) → n + length (justs_of t ls) ≤ count → BelowLines count (lines_of source n ls)
   lines_below count n [] h = tt
@@ -112,12 +112,12 @@ module _ (t : Laws) (source : List ℕ) where
   module _ (is : IsTheory t) where
     justs_allowed : (ls : List RawTreeLine) → flat_map (content_faults t) ls ≡ [] → list_all (is_allowed t) (justs_of t ls) ≡ true
     justs_allowed [] h = refl
-    justs_allowed (l ∷ ls) h = by l.step (nil_parts (node_faults t l.step) (sequent_faults l.goal) both.0).0 (justs_allowed ls both.1)
+    justs_allowed (l ∷ ls) h = by l.step (nil_parts (written_faults t l.step) (sequent_faults l.goal) both.0).0 (justs_allowed ls both.1)
       where
         both : (content_faults t l ≡ []) × (flat_map (content_faults t) ls ≡ [])
         both = nil_parts (content_faults t l) (flat_map (content_faults t) ls) h
 
-        by : (s : Option (RawStep RawBound)) → node_faults t s ≡ [] → list_all (is_allowed t) (justs_of t ls) ≡ true → list_all (is_allowed t) (step_justs t s ++ justs_of t ls) ≡ true
+        by : (s : Option (RawStep RawBound)) → written_faults t s ≡ [] → list_all (is_allowed t) (justs_of t ls) ≡ true → list_all (is_allowed t) (step_justs t s ++ justs_of t ls) ≡ true
         by None e k = k
         by (Some s) e k = and_from _ _ (step_allowed t is s e) k
 

@@ -18,7 +18,7 @@ use Rattle.mp_treetext.specs.declared.printed.Printed.{Printed}
 use Rattle.mp_treetext.specs.declared.raw.RawBlock.{RawBlock}
 use Rattle.mp_treetext.specs.Differences.{difference, difference_faults, differing}
 use Rattle.mp_treetext.specs.Grammar.{file}
-use Rattle.mp_treetext.specs.Printed.{file_text}
+use Rattle.mp_treetext.specs.Printed.{trees_text}
 use Rattle.mp_treetext.specs.Reading.{ReadsTrees, tree_passes}
 use Rattle.mp_treetext.specs.Statics.{file_faults}
 use Rattle.mp_treetext.specs.Values.{file_value}
@@ -62,10 +62,10 @@ module _ (t : Laws) (goals gs : List Sym) (source : List ℕ) (bs us : List RawB
   some_found found e f n = sym (found_is found f) ∙ n
 
 pub difference_found : (t : Laws) (goals gs : List Sym) (source : List ℕ) (names : List (List ℕ)) (ps qs : List Printed) (bs : List RawBlock) → gs ≡ goals → qs ≡ ps → ps ≡ file_value t source bs
-    → (found o : Option ℕ) → found ≡ difference 0 source (file_text names t gs qs) → found ≡ o → difference 0 source (file_text names t goals (file_value t source bs)) ≡ o
+    → (found o : Option ℕ) → found ≡ difference 0 source (trees_text names t gs qs) → found ≡ o → difference 0 source (trees_text names t goals (file_value t source bs)) ≡ o
 difference_found t goals gs source names ps qs bs eg eq ep found o e f =
     let same = eq ∙ ep in
-    sym (λ i. difference 0 source (file_text names t (eg i) (same i))) ∙ sym e ∙ f
+    sym (λ i. difference 0 source (trees_text names t (eg i) (same i))) ∙ sym e ∙ f
 
 module _ (t : Laws) (goals : List Sym) (names : List (List ℕ)) (source : List ℕ) where
   pub lexical_file : (new : List (List ℕ)) (f : TextFail) (r : Result (List Printed) TextFail) → r ≡ Err f → LexesText names source (Err f) new → Extends names new → ReadsTrees t goals names source r new
@@ -83,7 +83,7 @@ module _ (t : Laws) (goals : List Sym) (names : List (List ℕ)) (source : List 
 
       -- the printed text by the table after the text
       abbrev wanted : List (List ℕ) → List ℕ
-      wanted n = file_text n t goals (file_value t source bs)
+      wanted n = trees_text n t goals (file_value t source bs)
 
       pub broken_file : (e : TextErr) → least (file_faults t goals source bs) ≡ Some e → ReadsTrees t goals names source (Err (fail.Bad e)) new
       broken_file e h =

@@ -9,7 +9,7 @@ use Rattle.mp_logic.specs.declared.sym.Sym.{Sym}
 use Rattle.mp_theory.specs.Tables.{Laws}
 use Rattle.mp_treetext.specs.declared.printed.Printed.{Printed}
 use Rattle.mp_treetext.specs.Differences.{difference}
-use Rattle.mp_treetext.specs.Printed.{file_text, printed_text}
+use Rattle.mp_treetext.specs.Printed.{trees_text, printed_text}
 
 abbrev is_there : Option ℕ → Bool
 is_there None = false
@@ -61,12 +61,12 @@ item_next xs i d lt = drop-cons xs i d lt ∙ ap (λ n. get_or xs i d ∷ drop n
 
 -- the blocks from place i on are the block there and the rest
 pub text_next : (names : List (List ℕ)) (t : Laws) (goals : List Sym) (ps : List Printed) (i : ℕ) (d : Sym) (p : Printed) → i < length goals → i < length ps → p ≡ get_or ps i p
-    → file_text names t (drop i goals) (drop i ps) ≡ printed_text names t (get_or goals i d) p ++ file_text names t (drop (i + 1) goals) (drop (i + 1) ps)
+    → trees_text names t (drop i goals) (drop i ps) ≡ printed_text names t (get_or goals i d) p ++ trees_text names t (drop (i + 1) goals) (drop (i + 1) ps)
 text_next names t goals ps i d p lg lp pi =
     let a = item_next goals i d lg in
     let b = left_cons ps i p lp pi in
-    λ j. file_text names t (a j) (b j)
+    λ j. trees_text names t (a j) (b j)
 
 -- there are no blocks from the last place on
-pub text_ends : (names : List (List ℕ)) (t : Laws) (goals : List Sym) (ps : List Printed) (i : ℕ) → length goals ≤ i → file_text names t (drop i goals) (drop i ps) ≡ []
-text_ends names t goals ps i le = ap (λ gs. file_text names t gs (drop i ps)) (drop_all i goals le)
+pub text_ends : (names : List (List ℕ)) (t : Laws) (goals : List Sym) (ps : List Printed) (i : ℕ) → length goals ≤ i → trees_text names t (drop i goals) (drop i ps) ≡ []
+text_ends names t goals ps i le = ap (λ gs. trees_text names t gs (drop i ps)) (drop_all i goals le)

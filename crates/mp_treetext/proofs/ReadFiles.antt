@@ -7,7 +7,7 @@ use Rattle.mp_words.specs.Texts.{table_after}
 use Rattle.mp_treetext.specs.declared.printed.Printed.{Printed}
 use Rattle.mp_treetext.specs.declared.raw.RawBlock.{RawBlock}
 use Rattle.mp_treetext.specs.Differences.{difference, difference_faults, differing}
-use Rattle.mp_treetext.specs.Printed.{EachGoodPrinted, file_text}
+use Rattle.mp_treetext.specs.Printed.{EachGoodPrinted, trees_text}
 use Rattle.mp_treetext.specs.Reading.{ReadTreesAreGood, ReadTreesArePrinted}
 use Rattle.mp_treetext.specs.Statics.{file_faults}
 use Rattle.mp_treetext.specs.Values.{block_value, file_value}
@@ -33,14 +33,14 @@ no_difference (Some at) e = absurd cc
 pub read_good : ReadTreesAreGood
 read_good t goals names later source ps is h =
     let raw = h.0.raw in
-    let wanted = file_text (table_after names source) t goals (file_value t source raw) in
+    let wanted = trees_text (table_after names source) t goals (file_value t source raw) in
     let none = (no_pass (file_faults t goals source raw) (difference_faults source wanted) h.0.faultless).0 in
     (file_good t goals source raw ps none h.0.has is, file_many t goals source raw ps none h.0.has)
 
 pub read_printed : ReadTreesArePrinted
 read_printed t goals names later source ps h =
     let raw = h.0.raw in
-    let text : List (List ℕ) → List Printed → List ℕ = λ n qs. file_text n t goals qs in
+    let text : List (List ℕ) → List Printed → List ℕ = λ n qs. trees_text n t goals qs in
     let wanted = text (table_after names source) (file_value t source raw) in
     let same = (no_pass (file_faults t goals source raw) (difference_faults source wanted) h.0.faultless).1 in
     same_text 0 source wanted (no_difference (difference 0 source wanted) same) ∙ (λ i. text (sym h.1 i) (sym h.0.has i))

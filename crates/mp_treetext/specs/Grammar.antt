@@ -83,14 +83,14 @@ strategy_number = after (is_word keyword.At) (after (is_word keyword.Strategy) a
 -- where names have their numbers by this table
 module _ (names : List (List ℕ)) where
   -- Cap "at" "strategy" Num BAR sequent
-  abbrev pub failure : Grammar Word RawFailure
-  failure = made raw_failure (both (token (failure_kind_at names)) (both strategy_number barred))
+  abbrev pub failed_line : Grammar Word RawFailure
+  failed_line = made raw_failure (both (token (failure_kind_at names)) (both strategy_number barred))
 
   -- "closed" | Num "open" | "failed" and a failure
   abbrev pub goal_state : Grammar Word RawState
   goal_state =
       form (is_word keyword.Closed) (nothing state.Closed)
-      (form (is_word keyword.Failed) (made state.Failed failure)
+      (form (is_word keyword.Failed) (made state.Failed failed_line)
       (made state.Open (ended a_number (is_word keyword.Open))))
 
   -- "goal" Small : state

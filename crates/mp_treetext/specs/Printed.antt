@@ -27,10 +27,10 @@ abbrev pub printed_text : List (List ℕ) → Laws → Sym → Printed → List 
 printed_text names theory name p = headed names name (state_text names theory p)
 
 -- the blocks of goals, one after the other
-abbrev pub file_text : List (List ℕ) → Laws → List Sym → List Printed → List ℕ
-file_text names theory [] ps = []
-file_text names theory (goal ∷ goals) [] = []
-file_text names theory (goal ∷ goals) (p ∷ ps) = printed_text names theory goal p ++ file_text names theory goals ps
+abbrev pub trees_text : List (List ℕ) → Laws → List Sym → List Printed → List ℕ
+trees_text names theory [] ps = []
+trees_text names theory (goal ∷ goals) [] = []
+trees_text names theory (goal ∷ goals) (p ∷ ps) = printed_text names theory goal p ++ trees_text names theory goals ps
 
 -- ## Blocks that can be checked
 

@@ -9,13 +9,13 @@ use Rattle.mp_treetext.specs.declared.printed.Printed.{Printed}
 use Rattle.mp_treetext.specs.declared.raw.RawBlock.{RawBlock}
 use Rattle.mp_treetext.specs.Differences.{difference_faults}
 use Rattle.mp_treetext.specs.Grammar.{file}
-use Rattle.mp_treetext.specs.Printed.{EachGoodPrinted, file_text}
+use Rattle.mp_treetext.specs.Printed.{EachGoodPrinted, trees_text}
 use Rattle.mp_treetext.specs.Statics.{file_faults}
 use Rattle.mp_treetext.specs.Values.{file_value}
 
 -- the fault of a file that isn't the printed text of what is read, at the first byte that differs
 abbrev pub canonical_faults : Laws → List Sym → Context → List Printed → List TextErr
-canonical_faults t goals c ps = difference_faults c.source (file_text c.names t goals ps)
+canonical_faults t goals c ps = difference_faults c.source (trees_text c.names t goals ps)
 
 -- the static rules of tree files in two passes: what is written, and then whether it is written as it is printed
 abbrev pub tree_passes : Laws → List Sym → Context → List RawBlock → List (List TextErr)
@@ -61,4 +61,4 @@ ReadTreesAreGood =
 abbrev pub ReadTreesArePrinted : Type 0
 ReadTreesArePrinted =
     (t : Laws) (goals : List Sym) (names later : List (List ℕ)) (source : List ℕ) (ps : List Printed)
-    → ReadsTrees t goals names source (Ok ps) later → source ≡ file_text later t goals ps
+    → ReadsTrees t goals names source (Ok ps) later → source ≡ trees_text later t goals ps

@@ -43,13 +43,13 @@ stand_faults source before l =
     ++ fault_if (is_odd_at source l.at || not (may_follow before (depth_at source l.at))) (line_start source l.at) why.BadIndent
 
 -- the faults of a step, if the line is one
-abbrev pub node_faults : Laws → Option (RawStep RawBound) → List TextErr
-node_faults t None = []
-node_faults t (Some s) = term_step_faults t s
+abbrev pub written_faults : Laws → Option (RawStep RawBound) → List TextErr
+written_faults t None = []
+written_faults t (Some s) = term_step_faults t s
 
 -- the faults of what a line says, of its step and of its goal
 abbrev pub content_faults : Laws → RawTreeLine → List TextErr
-content_faults t l = node_faults t l.step ++ sequent_faults l.goal
+content_faults t l = written_faults t l.step ++ sequent_faults l.goal
 
 -- the faults of a tree line after the one before it
 abbrev pub tree_line_faults : Laws → List ℕ → Option Stand → RawTreeLine → List TextErr
@@ -99,8 +99,8 @@ block_faults t source b = state_faults source b.goal b.goal.state b.lines ++ tre
 -- ## Names
 
 -- the fault of a name that is no goal's
-abbrev pub unknown_faults : List Sym → RawName → List TextErr
-unknown_faults goals n = fault_if (not (is_among goals n.name)) n.at why.UnknownName
+abbrev pub unknown_goal_faults : List Sym → RawName → List TextErr
+unknown_goal_faults goals n = fault_if (not (is_among goals n.name)) n.at why.UnknownName
 
 -- the name is that of the first of the goals that are due
 abbrev pub is_due : List Sym → RawName → Bool
@@ -127,4 +127,4 @@ block_names = map (λ b. b.goal.name)
 -- the static faults of a tree file for these goals: those of its names, and those of each block
 abbrev pub file_faults : Laws → List Sym → List ℕ → List RawBlock → List TextErr
 file_faults t goals source bs =
-    flat_map (unknown_faults goals) (block_names bs) ++ order_faults (length source) goals (block_names bs) ++ flat_map (block_faults t source) bs
+    flat_map (unknown_goal_faults goals) (block_names bs) ++ order_faults (length source) goals (block_names bs) ++ flat_map (block_faults t source) bs

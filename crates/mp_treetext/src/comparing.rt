@@ -1,6 +1,6 @@
 ghost use Rattle.std.specs.Prelude.{◌≡◌, ◌+◌, ◌++◌, ◌≤◌, ℕ, List, Some, nat_eq, nat_lt, ◌&&◌, get_or, length, drop, MatchOption, IfOk};
 ghost use Rattle.mp_treetext.specs.Differences.{difference};
-ghost use Rattle.mp_treetext.specs.Printed.{file_text};
+ghost use Rattle.mp_treetext.specs.Printed.{trees_text};
 
 use crate::printed::Printed;
 use crate::result::push_printed;
@@ -43,7 +43,7 @@ pub(crate) fn file_difference(
     blocks: &[Printed],
 ) -> Result<Option<u64>, NoMemory>
     requires { length blocks.now ≡ length goals.now }
-    ensures { IfOk result (λ found. found ≡ difference 0 source.now (file_text names.now theory.now goals.now blocks.now)) }
+    ensures { IfOk result (λ found. found ≡ difference 0 source.now (trees_text names.now theory.now goals.now blocks.now)) }
 {
     let mut text = Vec::new(alloc);
     let mut at = 0u64;

@@ -3,7 +3,7 @@ ghost use Rattle.std.specs.List.{flat_map};
 ghost use Rattle.mp_strategy.specs.declared.limits.TheConstants.{MOST_NODES};
 ghost use Rattle.mp_words.specs.Ranges.{number_faults};
 ghost use Rattle.mp_treetext.specs.Few.{EachFew};
-ghost use Rattle.mp_treetext.specs.Statics.{block_faults, content_faults, failure_faults, node_faults, tree_lines_faults};
+ghost use Rattle.mp_treetext.specs.Statics.{block_faults, content_faults, failure_faults, written_faults, tree_lines_faults};
 ghost use Rattle.mp_treetext.specs.Values.{block_value, failure_of, file_value, just_number, justs_of, lines_of, proof_of, step_justs, tac_of};
 
 use crate::place::spaces_at;
@@ -25,7 +25,7 @@ fn push_step(
     step: &Option<RawStep<RawBound>>,
     justs: &mut List<Just>,
 ) -> Result<Option<JustId>, NoMemory>
-    requires faultless { node_faults theory.now step.now ≡ [] }
+    requires faultless { written_faults theory.now step.now ≡ [] }
     requires few { length justs.old < 2 ^ 32 }
     ensures number { IfOk result (λ just. just ≡ just_number (length justs.old) step.now) }
     ensures justs { OnOk result (justs.new ≡ justs.old ++ step_justs theory.now step.now) }

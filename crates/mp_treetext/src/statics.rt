@@ -3,7 +3,7 @@ ghost use Rattle.std.specs.List.{flat_map};
 ghost use Rattle.mp_logic.specs.declared.sym.Sym.{Sym};
 ghost use Rattle.mp_names.specs.Sets.{Met};
 ghost use Rattle.mp_words.specs.Faults.{least, least_from};
-ghost use Rattle.mp_treetext.specs.Statics.{block_faults, block_names, file_faults, is_count, is_due, may_follow, missing_tree_faults, node_faults, open_lines, order_faults, stand_faults, stand_of, state_faults, tree_line_faults, tree_lines_faults, unknown_faults};
+ghost use Rattle.mp_treetext.specs.Statics.{block_faults, block_names, file_faults, is_count, is_due, may_follow, missing_tree_faults, written_faults, open_lines, order_faults, stand_faults, stand_of, state_faults, tree_line_faults, tree_lines_faults, unknown_goal_faults};
 
 use crate::limits::MOST_LINE_DEPTH;
 use crate::place::{line_end, line_start, spaces_at};
@@ -70,7 +70,7 @@ fn check_node(
     step: &Option<RawStep<RawBound>>,
     held: Option<TextErr>,
 ) -> Result<Option<TextErr>, NoMemory>
-    ensures { IfOk result (λ found. found ≡ least_from held (node_faults theory.now step.now)) }
+    ensures { IfOk result (λ found. found ≡ least_from held (written_faults theory.now step.now)) }
 {
     match step {
         Some(step) => check_step::<GivenTerm>(alloc, theory, step, held),
@@ -228,7 +228,7 @@ fn goal_names(alloc: Global, goals: &[Sym]) -> Result<NameSet, NoMemory>
 
 /// The sooner one of the fault that is held and UnknownName, for a name that isn't among these names of goals.
 fn check_unknown(held: Option<TextErr>, names: &NameSet, name: RawName) -> Option<TextErr>
-    ensures { (goals : List Sym) → Met names.now goals → result ≡ least_from held (unknown_faults goals name) }
+    ensures { (goals : List Sym) → Met names.now goals → result ≡ least_from held (unknown_goal_faults goals name) }
 {
     match names.place(name.name) {
         Some(_) => held,
@@ -243,7 +243,7 @@ fn check_names(
     blocks: &[RawBlock],
     held: Option<TextErr>,
 ) -> Result<Option<TextErr>, NoMemory>
-    ensures { IfOk result (λ found. found ≡ least_from held (flat_map (unknown_faults goals.now) (block_names blocks.now))) }
+    ensures { IfOk result (λ found. found ≡ least_from held (flat_map (unknown_goal_faults goals.now) (block_names blocks.now))) }
 {
     let names = goal_names(alloc, goals)?;
     let mut held = held;

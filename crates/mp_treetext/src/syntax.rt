@@ -2,7 +2,7 @@ ghost use Rattle.std.specs.Prelude.{◌≡◌, ◌+◌, ◌<◌, ◌≤◌, [], 
 ghost use Rattle.mp_words.specs.Grammars.{taken, whole};
 ghost use Rattle.mp_words.specs.Reading.{Reads};
 ghost use Rattle.mp_treetext.specs.Few.{EachFew};
-ghost use Rattle.mp_treetext.specs.Grammar.{barred, begins_tree_line, block, failure, file, goal_line, goal_state, lines_after, node, strategy_number, tree_line};
+ghost use Rattle.mp_treetext.specs.Grammar.{barred, begins_tree_line, block, failed_line, file, goal_line, goal_state, lines_after, node, strategy_number, tree_line};
 ghost use Rattle.mp_treetext.specs.Kinds.{failure_kind_at};
 ghost use Rattle.mp_treetext.specs.OneLine.{on_one_line};
 
@@ -120,7 +120,7 @@ fn parse_failure<'a>(
     names: &Names,
     words: &'a [Word],
 ) -> Result<(RawFailure, &'a [Word]), ReadFail>
-    ensures reads { Reads (λ x. (x.0, x.1.now)) (failure names.now) words.now result }
+    ensures reads { Reads (λ x. (x.0, x.1.now)) (failed_line names.now) words.now result }
     ensures shorter { IfOk result (λ x. length x.1.now < length words.now) }
 {
     let Some((kind, rest)) = failure_kind_at(names, words) else {

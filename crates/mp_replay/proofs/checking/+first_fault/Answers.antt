@@ -4,7 +4,7 @@ use Rattle.mp_logic.specs.declared.tree.Tree.{Step}
 use Rattle.mp_logic.specs.declared.tree.Tree.TheOpen as layer
 use Rattle.mp_logic.specs.Valid.{StepHolds}
 use Rattle.mp_replay.specs.Conditions.{CanReplay}
-use Rattle.mp_replay.specs.Nodes.{nodes_of}
+use Rattle.mp_replay.specs.Nodes.{preorder_of}
 use Rattle.mp_replay.proofs.Layers.{goal_good, just_allowed, kids_can}
 use Rattle.mp_replay.proofs.Walks.{begins_bad, begins, goes_on_after, finds_in_kid, finds_no_more, drop_first}
 use Rattle.mp_replay.proofs.checking.+first_fault.Goals as goal
@@ -50,7 +50,7 @@ returns-in-Some-2 g t c =
     let items = c.as_slice-kid-items.result.now in
     let i = c.loop-kid.kid-index in
     let first = drop_first items i c.kid-item.result c.loop-kid-test.true c.kid-item.is in
-    finds_in_kid m.step c.args.justs.now c.kid-item.result (drop i items) (drop (i + 1) items) first (nodes_of c.args.tree.now) c.args.seen.now c.loop-kid.seen c.first_fault.new.seen c.loop-kid.invariant.goes_on
+    finds_in_kid m.step c.args.justs.now c.kid-item.result (drop i items) (drop (i + 1) items) first (preorder_of c.args.tree.now) c.args.seen.now c.loop-kid.seen c.first_fault.new.seen c.loop-kid.invariant.goes_on
     c.in-Some-2.cause (rw c.in-Some-2.is at c.in_ok-cause-in-Step-2.ensures)
 
 pub loop-kid-preserved : goal.loop-kid-preserved
@@ -64,11 +64,11 @@ loop-kid-preserved g t c =
       fits = omega (arith, none.1);
       can = (subst (AllByRecursion (CanReplay m c.args.justs.now)) first c.loop-kid.invariant.can).1;
       goes_on =
-          goes_on_after m.step c.args.justs.now c.kid-item.result (drop i items) (drop (i + 1) items) first (nodes_of c.args.tree.now) c.args.seen.now c.loop-kid.seen c.first_fault.new.seen c.loop-kid.invariant.goes_on none;
+          goes_on_after m.step c.args.justs.now c.kid-item.result (drop i items) (drop (i + 1) items) first (preorder_of c.args.tree.now) c.args.seen.now c.loop-kid.seen c.first_fault.new.seen c.loop-kid.invariant.goes_on none;
     }
 
 pub returns-after-loop-kid : goal.returns-after-loop-kid
 returns-after-loop-kid g t c =
     let m = g.L.Logic.meaning c.args.logic.now in
     let items = c.as_slice-kid-items.result.now in
-    finds_no_more m.step c.args.justs.now items c.loop-kid.kid-index (nodes_of c.args.tree.now) c.args.seen.now c.loop-kid.seen c.loop-kid-test.false c.loop-kid.invariant.fits c.loop-kid.invariant.goes_on
+    finds_no_more m.step c.args.justs.now items c.loop-kid.kid-index (preorder_of c.args.tree.now) c.args.seen.now c.loop-kid.seen c.loop-kid-test.false c.loop-kid.invariant.fits c.loop-kid.invariant.goes_on

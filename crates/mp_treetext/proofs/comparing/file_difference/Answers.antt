@@ -2,7 +2,7 @@ use Rattle.std.proofs.Common.{◌+◌, ◌++◌, ap, sym, ◌∙◌, drop, get_o
 use Rattle.std.proofs.lemmas.Bool.Decides.{nat_tests}
 use Rattle.mp_logic.specs.declared.sym.Sym.{Sym}
 use Rattle.mp_treetext.specs.Differences.{difference}
-use Rattle.mp_treetext.specs.Printed.{file_text, printed_text}
+use Rattle.mp_treetext.specs.Printed.{trees_text, printed_text}
 use Rattle.mp_treetext.proofs.Pieces.{bytes_left, text_ends, text_next}
 use Rattle.mp_treetext.proofs.comparing.file_difference.Goals as goal
 
@@ -14,7 +14,7 @@ returns-in-Some c =
     let goals = c.args.goals.now in
     let blocks = c.args.blocks.now in
     let here = drop l.at c.args.source.now in
-    let more = file_text names t (drop (l.place + 1) goals) (drop (l.place + 1) blocks) in
+    let more = trees_text names t (drop (l.place + 1) goals) (drop (l.place + 1) blocks) in
     let first : Sym = record { 0 = 0 } in
     let printed = printed_text names t (get_or goals l.place first) c.index-blocks-place.result in
     let text = c.as_slice.ensures.value ∙ c.in_ok-push_printed.ensures ∙ ap (λ xs. xs ++ printed) c.truncate.ensures.items in
