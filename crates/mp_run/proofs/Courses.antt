@@ -1,5 +1,5 @@
 -- How the reads of a part go with its end: only the last one may fail, and it does exactly where the part ends by that fault.
-use Rattle.std.proofs.Common.{◌≡◌, inl, inr, ℕ, List, [], ◌∷◌, ◌++◌, map, Option, Some, None, Result, Ok, Err, refl, ap, sym, subst, ◌∙◌}
+use Rattle.std.proofs.Common.{◌≡◌, inl, inr, ℕ, List, [], ◌∷◌, ◌++◌, Option, Some, None, Result, Ok, Err, refl, ap, sym, subst, ◌∙◌}
 use Rattle.std.specs.Bool.{⊤}
 use Rattle.mp_ports.specs.Calls.{Read, Chain}
 use Rattle.mp_ports.specs.Causes.{Rose, ReadCause}
@@ -9,16 +9,16 @@ use Rattle.mp_ports.specs.declared.ports.ReadErr.TheVariants as err
 use Rattle.mp_theory.specs.Tables.{Laws, no_laws}
 use Rattle.mp_theorytext.specs.Reading.{ReadsTheory}
 use Rattle.mp_drill.specs.ScheduleReading.{ReadsSchedule}
-use Rattle.mp_scripttext.specs.declared.script.Entry.{Entry}
 use Rattle.mp_scripttext.specs.Reading.{ReadsScript}
+use Rattle.mp_treetext.specs.Reading.{ReadsTrees}
 use Rattle.mp_report.specs.declared.refusal.FileKind.TheVariants as kind
 use Rattle.mp_scripttext.specs.declared.script.Script.{Script as Goals}
 use Rattle.mp_report.specs.declared.refusal.FileKind.{FileKind}
 use Rattle.mp_run.specs.declared.stop.Stop.{Stop}
 use Rattle.mp_run.specs.declared.stop.Stop.TheVariants as stop
 use Rattle.mp_run.specs.Answers.{IsFrom, AllFrom, Keeps}
-use Rattle.mp_run.specs.Commands.{From, Named, Made, Task, Seq, Drill, Command}
-use Rattle.mp_run.specs.Loads.{plan_part, after_script, loads}
+use Rattle.mp_run.specs.Commands.{From, Named, Made, Task, Seq, Drill, Replay, Command}
+use Rattle.mp_run.specs.Loads.{goal_names, plan_part, after_script, loads}
 use Rattle.mp_run.specs.Parts.{Names, Reading, Part, gives, and_then, Answered, taken_from, SaysSo, says, read_as}
 
 -- how a part ends: with a value, by a refusal, by a fault of reading, or by want of memory
@@ -110,13 +110,13 @@ fair_read : {V : Type 0} (k : FileKind) (from : From) (reads : Reading V) → Is
 fair_read k from reads =
     fair_then (taken_from k from) (says k reads) (fair_taken k from) (λ text calls out h. no_call calls (course_of out) h.0 (said_ending k reads text out h.1))
 
-fair_plan : (task : Task) (goals : Goals) (names : Names) → IsFair (plan_part task goals names)
-fair_plan Seq goals names = fair_gives _
-fair_plan (Drill schedule) goals names =
-    fair_then _ _ (fair_read kind.Schedule schedule (ReadsSchedule (map (λ (e : Entry). e.name) goals.entries) names)) (λ said. fair_gives _)
+fair_plan : (task : Task) (theory : Laws) (goals : Goals) (names : Names) → IsFair (plan_part task theory goals names)
+fair_plan Seq theory goals names = fair_gives _
+fair_plan (Drill schedule) theory goals names = fair_then _ _ (fair_read kind.Schedule schedule (ReadsSchedule (goal_names goals.entries) names)) (λ said. fair_gives _)
+fair_plan (Replay trees) theory goals names = fair_then _ _ (fair_read kind.Trees trees (ReadsTrees theory (goal_names goals.entries) names)) (λ said. fair_gives _)
 
 fair_after_script : (task : Task) (theory : Laws) (script : Goals × Names) → IsFair (after_script task theory script)
-fair_after_script task theory script = fair_then _ _ (fair_plan task script.0 script.1) (λ plan. fair_gives _)
+fair_after_script task theory script = fair_then _ _ (fair_plan task theory script.0 script.1) (λ plan. fair_gives _)
 
 pub fair_loads : (c : Command) → IsFair (loads c)
 fair_loads c =

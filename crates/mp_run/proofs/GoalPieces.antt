@@ -20,13 +20,16 @@ use Rattle.mp_drill.specs.Trace.{IsTrace}
 use Rattle.mp_run.specs.declared.piece.Piece.{Piece}
 use Rattle.mp_run.specs.declared.piece.Verdict.{Verdict}
 use Rattle.mp_run.specs.Goals.{problem_of, goal_work, evaluate_by, verdict_of, IsBlock, IsEvaluated, IsDrilled}
-use Rattle.mp_run.specs.Loads.{Plan, Evaluated, Drilled}
+use Rattle.mp_run.specs.Loads.{Search, Evaluated, Drilled}
 use Rattle.mp_run.specs.Parts.{Names}
 use Rattle.mp_run.specs.Sessions.{IsPiece}
-use Rattle.mp_run.proofs.Proving.{SoundIn, outcome_says, sound, evaluate_in, goal_outcome}
+use Rattle.mp_run.proofs.Proving.{SoundIn, is_step, outcome_says, sound, evaluate_in, goal_outcome}
 
 abbrev pub piece_of : List ℕ → Verdict → Piece
 piece_of text verdict = record { text = text; verdict = verdict }
+
+pub same_piece : (p q : Piece) → p.text ≡ q.text → p.verdict ≡ q.verdict → p ≡ q
+same_piece p q e f = λ i. record { text = e i; verdict = f i }
 
 -- what two pushes append
 pub appended : (text out mid start trace result : List ℕ) → text ≡ out → out ≡ mid ++ result → mid ≡ start ++ trace → start ≡ [] → text ≡ trace ++ result
@@ -45,10 +48,6 @@ module _ (law : StepLaw) (names : Names) (theory : Laws) (entry : Entry) (is_the
       let work : w ≡ goal_work entry = f ∙ ap (λ (x : ProblemState Laws Just). work_of x.tacs (record { 0 = 0 }) entry.fuel entry.goal) same in
       subst (λ (v : Work Sequent). Q (problem_of theory entry) v) work (subst (λ (x : ProblemState Laws Just). Q x w) same h)
 
-  -- the code's steps are a step function of the theory
-  is_step : IsStepFunction theory (meaning_of theory).step
-  is_step by g ok h = (law theory by g ((meaning_of theory).step by g) is_theory ok h).0 refl
-
   -- the piece of a goal, with what its outcome says of the goal
   block_made : (before : List ℕ) (o : Outcome Sequent) (text : List ℕ) (verdict : Verdict) → SoundIn theory entry o
       → text ≡ before ++ result_text names theory entry.name entry.justs o → verdict ≡ verdict_of o → IsBlock names theory entry before o (piece_of text verdict)
@@ -57,7 +56,7 @@ module _ (law : StepLaw) (names : Names) (theory : Laws) (entry : Entry) (is_the
   pub evaluated : (o : Outcome Sequent) (text : List ℕ) (verdict : Verdict) → o ≡ goal_outcome theory entry → SoundIn theory entry o → text ≡ result_text names theory entry.name entry.justs o → verdict ≡ verdict_of o
       → IsEvaluated names theory entry (piece_of text verdict)
   evaluated o text verdict e is t v =
-      ((meaning_of theory).step, is_step, subst (λ (x : Outcome Sequent). IsBlock names theory entry [] x (piece_of text verdict)) e (block_made [] o text verdict is t v))
+      ((meaning_of theory).step, is_step law theory is_theory, subst (λ (x : Outcome Sequent). IsBlock names theory entry [] x (piece_of text verdict)) e (block_made [] o text verdict is t v))
 
   -- the code's steps are steps of the theory that evaluate to the same
   same_eval : evaluate_in theory entry ≡ evaluate_by (meaning_of theory).step theory entry
@@ -67,10 +66,10 @@ module _ (law : StepLaw) (names : Names) (theory : Laws) (entry : Entry) (is_the
       → text ≡ trace_text names entry.name events replies ++ result_text names theory entry.name entry.justs o → verdict ≡ verdict_of o → IsDrilled names theory due entry (piece_of text verdict)
   drilled events due o replies text verdict d h is t v =
       subst (λ (es : List Event). IsDrilled names theory es entry (piece_of text verdict)) d
-      ((meaning_of theory).step, is_step, replies, o, subst (λ (run : Work Sequent → Outcome Sequent). IsTrace run (goal_work entry) events replies o) same_eval h, block_made (trace_text names entry.name events replies) o text verdict is t v)
+      ((meaning_of theory).step, is_step law theory is_theory, replies, o, subst (λ (run : Work Sequent → Outcome Sequent). IsTrace run (goal_work entry) events replies o) same_eval h, block_made (trace_text names entry.name events replies) o text verdict is t v)
 
   -- the goal has a piece
-  pub some_piece : EachTrace → (plan : Plan) → (p : Piece) × IsPiece plan names theory entry p
+  pub some_piece : EachTrace → (search : Search) → (p : Piece) × IsPiece search names theory entry p
   some_piece some Evaluated =
       let o = goal_outcome theory entry in
       let text = result_text names theory entry.name entry.justs o in

@@ -1,11 +1,14 @@
+pub mod BadTrees
 pub mod Chains
 pub mod Courses
 pub mod FilesRead
+pub mod Good
 pub mod GoalPieces
 pub mod OneAnswer
 pub mod Plans
 pub mod Proving
 pub mod PutPieces
+pub mod Replaying
 pub mod Said
 pub mod SessionLaws
 pub mod SomeAnswer

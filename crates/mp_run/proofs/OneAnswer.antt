@@ -1,7 +1,10 @@
 -- A command has one answer over files that are told.
 use Rattle.std.proofs.Common.{◌≡◌, inl, inr, ℕ, List, [], ◌∷◌, ◌++◌, map, Option, Some, None, IsSome, Result, Ok, Err, refl, ap, sym, subst, ◌∙◌, arith}
 use Rattle.std.specs.Bool.{⊤}
+use Rattle.std.specs.List.{AllByRecursion}
+use Rattle.std.specs.Prelude.{zip}
 use Rattle.mp_logic.specs.Lists.{joined}
+use Rattle.mp_logic.specs.declared.sym.Sym.{Sym}
 use Rattle.mp_ports.specs.Calls.{Read}
 use Rattle.mp_ports.specs.declared.ports.ReadErr.{ReadErr}
 use Rattle.mp_ports.specs.declared.ports.ReadErr.TheVariants as err
@@ -25,6 +28,7 @@ use Rattle.mp_drill.specs.declared.schedule.Reply.{Reply}
 use Rattle.mp_drill.specs.Laws.{OneTrace, SameTraces}
 use Rattle.mp_drill.specs.Trace.{IsTrace}
 use Rattle.mp_drill.specs.ScheduleReading.{ReadsSchedule, OneScheduleText}
+use Rattle.mp_treetext.specs.Reading.{ReadsTrees, OneTreesText, ReadTreesAreGood}
 use Rattle.mp_report.specs.Refusals.{refusal_text}
 use Rattle.mp_report.specs.Traces.{trace_text}
 use Rattle.mp_report.specs.declared.refusal.FileKind.{FileKind}
@@ -36,14 +40,18 @@ use Rattle.mp_run.specs.declared.status.Status.{Status}
 use Rattle.mp_run.specs.declared.stop.Stop.{Stop}
 use Rattle.mp_run.specs.declared.stop.Stop.TheVariants as stop
 use Rattle.mp_run.specs.Answers.{IsFrom, AllFrom, IsTold, TaskIsTold, AreTold, Whole, Answers}
-use Rattle.mp_run.specs.Commands.{From, Named, Made, Task, Seq, Drill, Command}
+use Rattle.mp_run.specs.Commands.{From, Named, Made, Task, Seq, Drill, Replay, Command}
 use Rattle.mp_run.specs.Goals.{Steps, goal_work, evaluate_by, IsBlock}
 use Rattle.mp_run.specs.Lines.{limit_of}
-use Rattle.mp_run.specs.Loads.{Plan, Evaluated, Drilled, Said, plan_part, loads}
+use Rattle.mp_run.specs.Loads.{Search, Evaluated, Drilled, Plan, Searched, Replayed, Said, goal_names, plan_part, loads}
 use Rattle.mp_run.specs.Parts.{Names, Reading, Part, gives, and_then, Answered, taken_from, SaysSo, says, read_as}
-use Rattle.mp_run.specs.Sessions.{Others, Pieces, IsPiece, Says, status_of}
+use Rattle.mp_run.specs.Replays.{IsReplayed}
+use Rattle.mp_run.specs.Sessions.{Others, Pieces, IsPiece, Says, SaysBy, status_of}
+use Rattle.mp_run.proofs.Good.{IsGoodPair, each_entry, each_pair}
+use Rattle.mp_run.proofs.GoalPieces.{same_piece}
 use Rattle.mp_run.proofs.Proving.{by_steps}
-use Rattle.mp_run.proofs.Said.{TheoriesLaw, GoalsLaw, are_good}
+use Rattle.mp_run.proofs.Replaying.{one_replayed}
+use Rattle.mp_run.proofs.Said.{TheoriesLaw, GoalsLaw, HasBlocks, IsGoodSaid, are_good}
 
 -- ## Parts
 
@@ -158,17 +166,27 @@ module _ (files : List ℕ → Option (List ℕ)) where
   read_one k from reads is one =
       then_one (taken_from k from) (says k reads) (taken_one k from is) (λ text calls others x y f g h l a b. said_one k reads text x y one h.1 l.1 a b)
 
-  module _ (theory : OneTheoryText) (script : OneScriptText) (schedule : OneScheduleText) where
-    plan_one : (task : Task) (goals : Goals) (names : Names) → TaskIsTold files task → Determined (plan_part task goals names)
-    plan_one Seq goals names is = gives_one _
-    plan_one (Drill from) goals names is =
-        let asked = map (λ (e : Entry). e.name) goals.entries in then_one _ _ (read_one kind.Schedule from (ReadsSchedule asked names) is (text_read names (schedule asked))) (λ said. gives_one _)
+  -- tree files say one list of blocks or have one fault
+  trees_read : (t : Laws) (goals : List Sym) (old : Names) → OneTreesText → OneReading (ReadsTrees t goals old)
+  trees_read t goals old one = record {
+    value = λ bytes v w names others h k. (one.one_value t goals old bytes v w h.0 k.0, h.1 ∙ sym k.1);
+    not_both = λ bytes v e names others h k. one.apart t goals old bytes v e h.0 k.0;
+    fault = λ bytes e f names others h k. one.one_fault t goals old bytes e f h.0 k.0;
+  }
+
+  module _ (theory : OneTheoryText) (script : OneScriptText) (schedule : OneScheduleText) (trees : OneTreesText) where
+    plan_one : (task : Task) (t : Laws) (goals : Goals) (names : Names) → TaskIsTold files task → Determined (plan_part task t goals names)
+    plan_one Seq t goals names is = gives_one _
+    plan_one (Drill from) t goals names is =
+        let asked = goal_names goals.entries in then_one _ _ (read_one kind.Schedule from (ReadsSchedule asked names) is (text_read names (schedule asked))) (λ said. gives_one _)
+    plan_one (Replay from) t goals names is =
+        let asked = goal_names goals.entries in then_one _ _ (read_one kind.Trees from (ReadsTrees t asked names) is (trees_read t asked names trees)) (λ said. gives_one _)
 
     -- over files that are told the texts of a command say one thing
     pub loads_one : (c : Command) → AreTold files c → Determined (loads c)
     loads_one c told =
         then_one _ _ (read_one kind.Theory c.theory (ReadsTheory no_laws []) told.0 (text_read [] (theory no_laws)))
-        (λ t. then_one _ _ (read_one kind.Script c.script (ReadsScript t.0 t.1) told.1 (text_read t.1 (script t.0))) (λ s. then_one _ _ (plan_one c.task s.0 s.1 told.2) (λ plan. gives_one _)))
+        (λ t. then_one _ _ (read_one kind.Script c.script (ReadsScript t.0 t.1) told.1 (text_read t.1 (script t.0))) (λ s. then_one _ _ (plan_one c.task t.0 s.0 s.1 told.2) (λ plan. gives_one _)))
 
 -- ## Pieces
 
@@ -177,21 +195,18 @@ others_one Closed Are ps qs one h k = one h k
 others_one Open Are ps qs one h k = one h k
 others_one (Ends s) Are ps qs one h k = h ∙ sym k
 
-pieces_one : (theory : Laws) (Is : Entry → Piece → Type 0) → ((e : Entry) (p q : Piece) → IsGoodEntry theory e → Is e p → Is e q → p ≡ q) → (es : List Entry) (ps qs : List Piece) → EachGood theory es
-    → Pieces Is es ps → Pieces Is es qs → ps ≡ qs
-pieces_one theory Is one [] [] [] good h k = refl
-pieces_one theory Is one [] [] (q ∷ qs) good h k = absurd k
-pieces_one theory Is one [] (p ∷ ps) qs good h k = absurd h
-pieces_one theory Is one (e ∷ es) [] qs good h k = absurd h
-pieces_one theory Is one (e ∷ es) (p ∷ ps) [] good h k = absurd k
-pieces_one theory Is one (e ∷ es) (p ∷ ps) (q ∷ qs) good h k =
-    let first : p ≡ q = one e p q good.0 h.0 k.0 in
+pieces_one : {X : Type 0} (Good : X → Type 0) (Is : X → Piece → Type 0) → ((x : X) (p q : Piece) → Good x → Is x p → Is x q → p ≡ q) → (xs : List X) (ps qs : List Piece) → AllByRecursion Good xs
+    → Pieces Is xs ps → Pieces Is xs qs → ps ≡ qs
+pieces_one Good Is one [] [] [] good h k = refl
+pieces_one Good Is one [] [] (q ∷ qs) good h k = absurd k
+pieces_one Good Is one [] (p ∷ ps) qs good h k = absurd h
+pieces_one Good Is one (x ∷ xs) [] qs good h k = absurd h
+pieces_one Good Is one (x ∷ xs) (p ∷ ps) [] good h k = absurd k
+pieces_one Good Is one (x ∷ xs) (p ∷ ps) (q ∷ qs) good h k =
+    let first : p ≡ q = one x p q good.0 h.0 k.0 in
     let rest : ps ≡ qs =
-    others_one p.verdict (Pieces Is es) ps qs (λ a b. pieces_one theory Is one es ps qs good.1 a b) h.1 (subst (λ (r : Piece). Others r.verdict (Pieces Is es) qs) (sym first) k.1) in
+    others_one p.verdict (Pieces Is xs) ps qs (λ a b. pieces_one Good Is one xs ps qs good.1 a b) h.1 (subst (λ (r : Piece). Others r.verdict (Pieces Is xs) qs) (sym first) k.1) in
     λ i. first i ∷ rest i
-
-same_piece : (p q : Piece) → p.text ≡ q.text → p.verdict ≡ q.verdict → p ≡ q
-same_piece p q e f = λ i. record { text = e i; verdict = f i }
 
 block_one : (names : Names) (theory : Laws) (entry : Entry) (before : List ℕ) (o : Outcome Sequent) (p q : Piece) → IsBlock names theory entry before o p → IsBlock names theory entry before o q → p ≡ q
 block_one names theory entry before o p q h k = same_piece p q (h.text ∙ sym k.text) (h.verdict ∙ sym k.verdict)
@@ -220,18 +235,25 @@ module _ (law : StepLaw) (same : TracesLaw) (one : (eval : Work Sequent → Outc
         (subst (λ (o : Outcome Sequent). IsBlock names theory entry (trace_text names entry.name events rs) o q) (sym e.1) b) in
         block_one names theory entry (trace_text names entry.name events replies) o p q a there
 
-  piece_one : (plan : Plan) (names : Names) (theory : Laws) → IsTheory theory → (entry : Entry) (p q : Piece) → IsGoodEntry theory entry → IsPiece plan names theory entry p → IsPiece plan names theory entry q → p ≡ q
+  piece_one : (search : Search) (names : Names) (theory : Laws) → IsTheory theory → (entry : Entry) (p q : Piece) → IsGoodEntry theory entry → IsPiece search names theory entry p → IsPiece search names theory entry q → p ≡ q
   piece_one Evaluated names theory is entry p q good h k = evaluated_one names theory is entry good h.0 k.0 h.1 k.1 p q h.2 k.2
   piece_one (Drilled events) names theory is entry p q good h k =
       drilled_one names theory is entry good h.0 k.0 h.1 k.1 (events entry.name) h.2 k.2 h.3 k.3 p q h.4 k.4 h.5 k.5
 
-  says_one : (said : Said) (ps qs : List Piece) → IsTheory said.theory × EachGood said.theory said.goals → Says said ps → Says said qs → ps ≡ qs
-  says_one said ps qs good h k =
-      pieces_one said.theory (IsPiece said.plan said.names said.theory) (λ e p q g a b. piece_one said.plan said.names said.theory good.0 e p q g a b) said.goals ps qs good.1 h k
+  says_by_one : (plan : Plan) (names : Names) (theory : Laws) (goals : List Entry) (ps qs : List Piece) → IsTheory theory → EachGood theory goals → HasBlocks theory goals plan
+      → SaysBy plan names theory goals ps → SaysBy plan names theory goals qs → ps ≡ qs
+  says_by_one (Searched by) names theory goals ps qs is good blocks h k =
+      pieces_one (IsGoodEntry theory) (IsPiece by names theory) (λ e p q g a b. piece_one by names theory is e p q g a b) goals ps qs (each_entry theory goals good) h k
+  says_by_one (Replayed bs) names theory goals ps qs is good blocks h k =
+      pieces_one (IsGoodPair theory) (IsReplayed names theory) (λ x p q g a b. one_replayed law names theory is x.0 g.0.good x.1 g.1 p q a b) (zip goals bs) ps qs
+      (each_pair theory goals bs good blocks.good) h.1 k.1
 
-  -- the theory was read as one, and its goals can be evaluated, if there are any
+  says_one : (said : Said) (ps qs : List Piece) → IsGoodSaid said → Says said ps → Says said qs → ps ≡ qs
+  says_one said ps qs good h k = says_by_one said.plan said.names said.theory said.goals ps qs good.theory good.goals good.blocks h k
+
+  -- what was read is good, if anything was
   abbrev IsReady : Result Said Stop → Type 0
-  IsReady (Ok said) = IsTheory said.theory × EachGood said.theory said.goals
+  IsReady (Ok said) = IsGoodSaid said
   IsReady (Err end) = ⊤
 
   whole_one : (out : Result Said Stop) (s t : Status) (text bytes : List ℕ) → IsReady out → Whole out s text → Whole out t bytes → (s ≡ t) × (text ≡ bytes)
@@ -248,12 +270,12 @@ module _ (law : StepLaw) (same : TracesLaw) (one : (eval : Work Sequent → Outc
   whole_end (Err (stop.Fault file)) s text h = tt
   whole_end (Err stop.NoMemory) s text h = h
 
-  ready : TheoriesLaw → GoalsLaw → IsTheory no_laws → (c : Command) (calls : List Read) (out : Result Said Stop) → loads c calls out → IsReady out
-  ready of_theories of_goals none c calls (Ok said) h = are_good of_theories of_goals none c calls said h
-  ready of_theories of_goals none c calls (Err end) h = tt
+  ready : TheoriesLaw → GoalsLaw → ReadTreesAreGood → IsTheory no_laws → (c : Command) (calls : List Read) (out : Result Said Stop) → loads c calls out → IsReady out
+  ready of_theories of_goals of_trees none c calls (Ok said) h = are_good of_theories of_goals of_trees none c calls said h
+  ready of_theories of_goals of_trees none c calls (Err end) h = tt
 
-  pub one_answer : OneTheoryText → OneScriptText → OneScheduleText → TheoriesLaw → GoalsLaw → IsTheory no_laws → (files : List ℕ → Option (List ℕ)) (c : Command) → AreTold files c
+  pub one_answer : OneTheoryText → OneScriptText → OneScheduleText → OneTreesText → TheoriesLaw → GoalsLaw → ReadTreesAreGood → IsTheory no_laws → (files : List ℕ → Option (List ℕ)) (c : Command) → AreTold files c
       → (s t : Status) (text bytes : List ℕ) → Answers files c s text → Answers files c t bytes → (s ≡ t) × (text ≡ bytes)
-  one_answer theory script schedule of_theories of_goals none files c told s t text bytes h k =
-      let same = loads_one files theory script schedule c told h.0 k.0 h.2 k.2 h.1 k.1 h.3 k.3 (whole_end h.2 s text h.4) (whole_end k.2 t bytes k.4) in
-      whole_one h.2 s t text bytes (ready of_theories of_goals none c h.0 h.2 h.3) h.4 (subst (λ (out : Result Said Stop). Whole out t bytes) (sym same) k.4)
+  one_answer theory script schedule trees of_theories of_goals of_trees none files c told s t text bytes h k =
+      let same = loads_one files theory script schedule trees c told h.0 k.0 h.2 k.2 h.1 k.1 h.3 k.3 (whole_end h.2 s text h.4) (whole_end k.2 t bytes k.4) in
+      whole_one h.2 s t text bytes (ready of_theories of_goals of_trees none c h.0 h.2 h.3) h.4 (subst (λ (out : Result Said Stop). Whole out t bytes) (sym same) k.4)

@@ -1,5 +1,5 @@
 -- Trees of evaluation prove their goals by steps of the theory.
-use Rattle.std.proofs.Common.{◌≡◌, ℕ, ◌<◌, ◌≤◌, true, List, [], ◌∷◌, map, length, nat_eq, nat_lt, Ok, IsTrue, refl, sym, subst, arith}
+use Rattle.std.proofs.Common.{◌≡◌, ℕ, ◌<◌, ◌≤◌, true, List, [], ◌∷◌, map, length, nat_eq, nat_lt, Ok, IsTrue, refl, sym, subst, ◌∙◌, arith}
 use Rattle.std.proofs.lemmas.Bool.{and_parts}
 use Rattle.std.proofs.lemmas.Bool.Decides.{nat_tests}
 use Rattle.std.specs.List.{AllByRecursion, list_all}
@@ -68,6 +68,16 @@ module _ (law : StepLaw) (theory : Laws) (is_theory : IsTheory theory) (justs : 
   -- a tree that is valid for a good goal proves it
   pub proves : (t : Tree Sequent) (g : Sequent) → IsTrue (is_good g) → IsValid (meaning_of theory).step justs t g → Proves theory justs t g
   proves t g h valid = (valid.0, tree_ind Turns turns_leaf turns_step t (subst (λ x. IsTrue (is_good x)) (sym valid.0) h) valid.1)
+
+-- the code's steps are a step function of the theory
+pub is_step : StepLaw → (theory : Laws) → IsTheory theory → IsStepFunction theory (meaning_of theory).step
+is_step law theory is_theory by g ok good = (law theory by g ((meaning_of theory).step by g) is_theory ok good).0 refl
+
+-- two step functions of the theory agree on what is allowed and good
+pub agree : StepLaw → (theory : Laws) → IsTheory theory → (steps others : Steps) → IsStepFunction theory steps → IsStepFunction theory others
+    → (by : Just) (g : Sequent) → IsTrue (is_allowed theory by) → IsTrue (is_good g) → steps by g ≡ others by g
+agree law theory is_theory steps others are also by g ok good =
+    sym ((law theory by g (steps by g) is_theory ok good).1 (are by g ok good)) ∙ (law theory by g (others by g) is_theory ok good).1 (also by g ok good)
 
 -- ## Outcomes
 

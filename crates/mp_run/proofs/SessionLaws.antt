@@ -1,6 +1,8 @@
 -- What a session writes, counts and leaves, over any shelf and any sink.
 use Rattle.std.proofs.Common.{◌≡◌, ◌⊎◌, inl, inr, ℕ, Bool, true, false, if◌then◌else◌, List, [], ◌∷◌, ◌++◌, map, Option, Some, None, Result, Ok, Err, refl, ap, sym, subst, ◌∙◌, append-nil, arith}
+use Rattle.std.specs.Bool.{⊤}
 use Rattle.std.specs.Io.KnownBytes.{Appends}
+use Rattle.std.specs.Prelude.{zip}
 use Rattle.mp_logic.specs.Lists.{joined}
 use Rattle.mp_ports.specs.Calls.{Read, Put, Chain}
 use Rattle.mp_ports.specs.Causes.{Quiet, ReadCause, PutCause}
@@ -9,6 +11,10 @@ use Rattle.mp_ports.specs.Sinks.{PutTakes}
 use Rattle.mp_ports.specs.declared.ports.PutFailed.{PutFailed}
 use Rattle.mp_theory.specs.Tables.{Laws}
 use Rattle.mp_scripttext.specs.declared.script.Entry.{Entry}
+use Rattle.mp_treetext.specs.declared.printed.Printed.{Printed}
+use Rattle.mp_treetext.specs.declared.printed.Printed.TheVariants as printed
+use Rattle.mp_report.specs.declared.check.Checked.{Checked}
+use Rattle.mp_report.specs.declared.check.Checked.TheVariants as checked
 use Rattle.mp_run.specs.declared.piece.Piece.{Piece}
 use Rattle.mp_run.specs.declared.piece.Verdict.{Verdict}
 use Rattle.mp_run.specs.declared.piece.Verdict.TheVariants.{Closed, Open, Ends}
@@ -20,53 +26,69 @@ use Rattle.mp_run.specs.Answers.{Whole, Answers, WritesOf, WholeUsage, Writes, R
 use Rattle.mp_run.specs.Commands.{Command, usage_line}
 use Rattle.mp_run.specs.Goals.{is_closed_outcome}
 use Rattle.mp_run.specs.Lines.{fault_line}
-use Rattle.mp_run.specs.Loads.{Plan, Evaluated, Drilled, Said}
+use Rattle.mp_run.specs.Loads.{Search, Evaluated, Drilled, Plan, Searched, Replayed, Said}
 use Rattle.mp_run.specs.Parts.{Names}
-use Rattle.mp_run.specs.Sessions.{Others, Pieces, status_on, status_after, status_of, IsPiece, Says, Then, Puts, PutsLine, Ended as PutsEnded, CommandSession, Session}
+use Rattle.mp_run.specs.Replays.{IsChecked, IsReplayed, checked_of, run_verdict}
+use Rattle.mp_run.specs.Sessions.{Others, Pieces, status_on, status_after, status_of, IsPiece, Says, SaysBy, Then, Puts, PutsLine, Ended as PutsEnded, CommandSession, Session}
 use Rattle.mp_run.proofs.Courses.{course_of, Counts, IsDone, Follows, fair_loads, counts, all_from}
 use Rattle.mp_run.proofs.Written.{Ended, all_written, lacking, failing, written, line_written, none_written}
 
--- ## The status of goals
+-- ## The status of pieces
 
--- all is closed, or not all is
-abbrev OfGoals : Status → Type 0
-OfGoals s = (s ≡ status.AllClosed) ⊎ (s ≡ status.NotAll)
+-- a run with this status is one without a fault
+abbrev IsFaultless : Status → Type 0
+IsFaultless s = (r r' w w' : ℕ) → r' ≡ r → w' ≡ w → RunCause s r r' w w'
 
--- the verdict is of an outcome
+-- a piece of this verdict doesn't end the run by a fault
 abbrev IsPlain : Verdict → Type 0
-IsPlain v = (v ≡ Closed) ⊎ (v ≡ Open)
+IsPlain Closed = ⊤
+IsPlain Open = ⊤
+IsPlain (Ends s) = IsFaultless s
 
-status_step : (v : Verdict) (Are : List Piece → Type 0) (ps : List Piece) (before : Status) → IsPlain v → Others v Are ps → OfGoals before
-    → (Are ps → (b : Status) → OfGoals b → OfGoals (status_after ps b)) → OfGoals (status_on v before (status_after ps))
+not_all : IsFaultless status.NotAll
+not_all r r' w w' h k = (h, k)
+
+status_step : (v : Verdict) (Are : List Piece → Type 0) (ps : List Piece) (before : Status) → IsPlain v → Others v Are ps → IsFaultless before
+    → (Are ps → (b : Status) → IsFaultless b → IsFaultless (status_after ps b)) → IsFaultless (status_on v before (status_after ps))
 status_step Closed Are ps before is h g more = more h before g
-status_step Open Are ps before is h g more = more h status.NotAll (inr refl)
-status_step (Ends s) Are ps before (inl e) h g more = absurd cc
-status_step (Ends s) Are ps before (inr e) h g more = absurd cc
+status_step Open Are ps before is h g more = more h status.NotAll not_all
+status_step (Ends s) Are ps before is h g more = is
 
-goals_status : {X : Type 0} (Is : X → Piece → Type 0) → ((x : X) (p : Piece) → Is x p → IsPlain p.verdict) → (xs : List X) (ps : List Piece) → Pieces Is xs ps → (before : Status) → OfGoals before
-    → OfGoals (status_after ps before)
-goals_status Is plain [] [] h before g = g
-goals_status Is plain [] (p ∷ ps) h before g = absurd h
-goals_status Is plain (x ∷ xs) [] h before g = absurd h
-goals_status Is plain (x ∷ xs) (p ∷ ps) h before g =
-    status_step p.verdict (Pieces Is xs) ps before (plain x p h.0) h.1 g (λ k b f. goals_status Is plain xs ps k b f)
+pieces_status : {X : Type 0} (Is : X → Piece → Type 0) → ((x : X) (p : Piece) → Is x p → IsPlain p.verdict) → (xs : List X) (ps : List Piece) → Pieces Is xs ps → (before : Status) → IsFaultless before
+    → IsFaultless (status_after ps before)
+pieces_status Is plain [] [] h before g = g
+pieces_status Is plain [] (p ∷ ps) h before g = absurd h
+pieces_status Is plain (x ∷ xs) [] h before g = absurd h
+pieces_status Is plain (x ∷ xs) (p ∷ ps) h before g =
+    status_step p.verdict (Pieces Is xs) ps before (plain x p h.0) h.1 g (λ k b f. pieces_status Is plain xs ps k b f)
 
 plain_if : (b : Bool) (v : Verdict) → v ≡ (if b then Closed else Open) → IsPlain v
-plain_if true v e = inl e
-plain_if false v e = inr e
+plain_if true v e = subst IsPlain (sym e) tt
+plain_if false v e = subst IsPlain (sym e) tt
 
-piece_is_plain : (plan : Plan) (names : Names) (theory : Laws) (entry : Entry) (p : Piece) → IsPiece plan names theory entry p → IsPlain p.verdict
+line_is_plain : (c : Checked) (v : Verdict) → v ≡ run_verdict c → IsPlain v
+line_is_plain checked.Closed v e = subst IsPlain (sym e) tt
+line_is_plain (checked.Open n) v e = subst IsPlain (sym e) tt
+line_is_plain checked.Unchecked v e = subst IsPlain (sym e) tt
+line_is_plain (checked.Bad node why) v e = let bad : IsPlain (Ends status.BadTree) = λ r r' w w' h k. (h, k) in subst IsPlain (sym e) bad
+
+piece_is_plain : (search : Search) (names : Names) (theory : Laws) (entry : Entry) (p : Piece) → IsPiece search names theory entry p → IsPlain p.verdict
 piece_is_plain Evaluated names theory entry p h = plain_if (is_closed_outcome _) p.verdict h.2.verdict
 piece_is_plain (Drilled events) names theory entry p h = plain_if (is_closed_outcome h.3) p.verdict h.5.verdict
 
-says_status : (said : Said) (ps : List Piece) → Says said ps → OfGoals (status_of ps)
-says_status said ps h = goals_status (IsPiece said.plan said.names said.theory) (λ e p k. piece_is_plain said.plan said.names said.theory e p k) said.goals ps h status.AllClosed (inl refl)
+block_is_plain : (names : Names) (theory : Laws) (entry : Entry) (block : Printed) (p : Piece) → IsChecked names theory entry block p → IsPlain p.verdict
+block_is_plain names theory entry (printed.Proof t justs) p h = line_is_plain (checked_of h.2) p.verdict h.4.line.verdict
+block_is_plain names theory entry (printed.Failed kind tac goal) p h = line_is_plain checked.Unchecked p.verdict h.verdict
+
+says_by_status : (plan : Plan) (names : Names) (theory : Laws) (goals : List Entry) (ps : List Piece) → SaysBy plan names theory goals ps → IsFaultless (status_of ps)
+says_by_status (Searched by) names theory goals ps h = pieces_status (IsPiece by names theory) (λ e p k. piece_is_plain by names theory e p k) goals ps h status.AllClosed (λ r r' w w' a b. (a, b))
+says_by_status (Replayed blocks) names theory goals ps h =
+    pieces_status (IsReplayed names theory) (λ x p k. block_is_plain names theory x.0 x.1 p k) (zip goals blocks) ps h.1 status.AllClosed (λ r r' w w' a b. (a, b))
+
+says_status : (said : Said) (ps : List Piece) → Says said ps → IsFaultless (status_of ps)
+says_status said ps h = says_by_status said.plan said.names said.theory said.goals ps h
 
 -- ## Causes
-
-goals_cause : (s : Status) (r r' w w' : ℕ) → OfGoals s → r' ≡ r → w' ≡ w → RunCause s r r' w w'
-goals_cause s r r' w w' (inl e) h k = subst (λ (x : Status). RunCause x r r' w w') (sym e) (h, k)
-goals_cause s r r' w w' (inr e) h k = subst (λ (x : Status). RunCause x r r' w w') (sym e) (h, k)
 
 -- a run whose puts ended so has its cause, if it has one where all was written
 caused : (whole text : List ℕ) (end s : Status) (r r' w w' : ℕ) → Ended whole end s w w' text → (w' ≡ w → RunCause end r r' w w') → RunCause s r r' w w'
@@ -142,7 +164,7 @@ module _ {S T : Type 0} (R : S → S → Read → Type 0) (bytes : S → List �
       → RunCause final (reads_faults s) (reads_faults t) (puts_faults o) (puts_faults p)
   ended_cause (Ok said) final f h =
       let w = pieces_put h.0 (status_of h.0) final h.2 in
-      caused _ w.0 (status_of h.0) final _ _ _ _ w.2 (λ k. goals_cause (status_of h.0) _ _ _ _ (says_status said h.0 h.1) (counted (Ok said) f) k)
+      caused _ w.0 (status_of h.0) final _ _ _ _ w.2 (λ k. says_status said h.0 h.1 _ _ _ _ (counted (Ok said) f) k)
   ended_cause (Err (stop.Refused line)) final f h =
       let w = line_put line status.Refused final h in caused _ w.0 status.Refused final _ _ _ _ w.2 (λ k. (counted (Err (stop.Refused line)) f, k))
   ended_cause (Err (stop.Fault file)) final f (inl h) =

@@ -3,6 +3,7 @@ use Rattle.std.proofs.Common.{◌≡◌, ◌⊎◌, inl, inr, ℕ, ◌<◌, ◌�
 use Rattle.std.specs.Bool.{⊤}
 use Rattle.std.proofs.lemmas.Bool.{cases_lt}
 use Rattle.mp_logic.specs.Lists.{joined}
+use Rattle.mp_logic.specs.declared.sym.Sym.{Sym}
 use Rattle.mp_ports.specs.Calls.{Read}
 use Rattle.mp_ports.specs.declared.ports.ReadErr.{ReadErr}
 use Rattle.mp_ports.specs.declared.ports.ReadErr.TheVariants as err
@@ -20,6 +21,8 @@ use Rattle.mp_scripttext.specs.declared.script.Script.{Script as Goals}
 use Rattle.mp_scripttext.specs.Reading.{ReadsScript, SomeScriptText}
 use Rattle.mp_drill.specs.ScheduleReading.{ReadsSchedule, SomeScheduleText}
 use Rattle.mp_drill.specs.Sections.{events_of}
+use Rattle.mp_treetext.specs.declared.printed.Printed.{Printed}
+use Rattle.mp_treetext.specs.Reading.{IsTreesFault, IsTreesText, ReadsTrees, SomeTreesText, ReadTreesAreGood}
 use Rattle.mp_report.specs.Refusals.{refusal_text}
 use Rattle.mp_report.specs.declared.refusal.FileKind.{FileKind}
 use Rattle.mp_report.specs.declared.refusal.FileKind.TheVariants as kind
@@ -29,14 +32,14 @@ use Rattle.mp_run.specs.declared.status.Status.TheVariants as status
 use Rattle.mp_run.specs.declared.stop.Stop.{Stop}
 use Rattle.mp_run.specs.declared.stop.Stop.TheVariants as stop
 use Rattle.mp_run.specs.Answers.{IsFrom, AllFrom, IsTold, TaskIsTold, AreTold, Whole, Answers}
-use Rattle.mp_run.specs.Commands.{From, Named, Made, Task, Seq, Drill, Command}
+use Rattle.mp_run.specs.Commands.{From, Named, Made, Task, Seq, Drill, Replay, Command}
 use Rattle.mp_run.specs.Lines.{limit_of, long_line}
-use Rattle.mp_run.specs.Loads.{Plan, Evaluated, Drilled, Said, plan_part, after_script, after_theory, loads}
+use Rattle.mp_run.specs.Loads.{Evaluated, Drilled, Plan, Searched, Replayed, Said, goal_names, plan_part, loads}
 use Rattle.mp_run.specs.Parts.{Names, Reading, Part, gives, and_then, taken_from, read_of, says, read_as}
-use Rattle.mp_run.specs.Sessions.{IsPiece, Says, status_of}
-use Rattle.mp_run.proofs.GoalPieces.{EachTrace, some_piece}
-use Rattle.mp_run.proofs.PutPieces.{some_pieces}
-use Rattle.mp_run.proofs.Said.{TheoriesLaw, GoalsLaw, are_good}
+use Rattle.mp_run.specs.Sessions.{Says, SaysBy, status_of}
+use Rattle.mp_run.proofs.Good.{some_checked, some_searched}
+use Rattle.mp_run.proofs.GoalPieces.{EachTrace}
+use Rattle.mp_run.proofs.Said.{TheoriesLaw, GoalsLaw, HasBlocks, IsGoodSaid, are_good}
 
 -- ## Texts
 
@@ -52,6 +55,15 @@ module _ {X V : Type 0} {g : List Word → Parse Word X} {passes : Context → X
   -- a text has a value or a fault
   text_says : SomeText g passes value → SaysSome (ReadsText g passes value old) source
   text_says some = said_so (some old source)
+
+module _ (t : Laws) (goals : List Sym) (old : Names) (source : List ℕ) where
+  blocks_or_fault : ((v : List Printed) × IsTreesText t goals old source v) ⊎ ((e : TextErr) × IsTreesFault t goals old source e) → SaysSome (ReadsTrees t goals old) source
+  blocks_or_fault (inl h) = inl (h.0, table_after old source, (h.1, refl))
+  blocks_or_fault (inr h) = inr (h.0, table_after old source, (h.1, refl))
+
+  -- a text has blocks or a fault
+  trees_say : SomeTreesText → SaysSome (ReadsTrees t goals old) source
+  trees_say some = blocks_or_fault (some t goals old source)
 
 -- ## Parts
 
@@ -115,36 +127,43 @@ module _ (files : List ℕ → Option (List ℕ)) where
   read_some : {V : Type 0} (k : FileKind) (from : From) (reads : Reading V) → IsTold files from → ((text : List ℕ) → SaysSome reads text) → Gives (read_as k from reads)
   read_some k from reads is some = then_some (taken_from k from) (says k reads) (taken_some k from is) (λ text. says_some k reads text (some text))
 
-  module _ (theory : SomeTheoryText) (script : SomeScriptText) (schedule : SomeScheduleText) where
-    plan_some : (task : Task) (goals : Goals) (names : Names) → TaskIsTold files task → Gives (plan_part task goals names)
-    plan_some Seq goals names is = gives_some (Evaluated, names)
-    plan_some (Drill from) goals names is =
-        let asked = map (λ (e : Entry). e.name) goals.entries in
-        then_some _ _ (read_some kind.Schedule from (ReadsSchedule asked names) is (λ text. text_says names text (schedule asked))) (λ said. gives_some (Drilled (events_of said.0), said.1))
+  module _ (theory : SomeTheoryText) (script : SomeScriptText) (schedule : SomeScheduleText) (trees : SomeTreesText) where
+    plan_some : (task : Task) (t : Laws) (goals : Goals) (names : Names) → TaskIsTold files task → Gives (plan_part task t goals names)
+    plan_some Seq t goals names is = gives_some (Searched Evaluated, names)
+    plan_some (Drill from) t goals names is =
+        let asked = goal_names goals.entries in
+        then_some _ _ (read_some kind.Schedule from (ReadsSchedule asked names) is (λ text. text_says names text (schedule asked))) (λ said. gives_some (Searched (Drilled (events_of said.0)), said.1))
+    plan_some (Replay from) t goals names is =
+        let asked = goal_names goals.entries in
+        then_some _ _ (read_some kind.Trees from (ReadsTrees t asked names) is (λ text. trees_say t asked names text trees)) (λ said. gives_some (Replayed said.0, said.1))
 
     -- over files that are told the texts of a command say something
     loads_some : (c : Command) → AreTold files c → Gives (loads c)
     loads_some c told =
         then_some _ _ (read_some kind.Theory c.theory (ReadsTheory no_laws []) told.0 (λ text. text_says [] text (theory no_laws)))
-        (λ t. then_some _ _ (read_some kind.Script c.script (ReadsScript t.0 t.1) told.1 (λ text. text_says t.1 text (script t.0))) (λ s. then_some _ _ (plan_some c.task s.0 s.1 told.2) (λ plan. gives_some _)))
+        (λ t. then_some _ _ (read_some kind.Script c.script (ReadsScript t.0 t.1) told.1 (λ text. text_says t.1 text (script t.0))) (λ s. then_some _ _ (plan_some c.task t.0 s.0 s.1 told.2) (λ plan. gives_some _)))
 
 -- ## Pieces
 
-module _ (law : StepLaw) (traces : EachTrace) (of_theories : TheoriesLaw) (of_goals : GoalsLaw) (none : IsTheory no_laws) where
-  says_pieces : (said : Said) → IsTheory said.theory × EachGood said.theory said.goals → (ps : List Piece) × Says said ps
-  says_pieces said good =
-      some_pieces said.theory (IsPiece said.plan said.names said.theory) (λ entry g. some_piece law said.names said.theory entry good.0 g traces said.plan) said.goals good.1
+module _ (law : StepLaw) (traces : EachTrace) where
+  says_by : (plan : Plan) (names : Names) (theory : Laws) (goals : List Entry) → IsTheory theory → EachGood theory goals → HasBlocks theory goals plan → (ps : List Piece) × SaysBy plan names theory goals ps
+  says_by (Searched by) names theory goals is good blocks = some_searched law names theory is traces by goals good
+  says_by (Replayed bs) names theory goals is good blocks = let some = some_checked law names theory is goals bs good blocks.good in (some.0, (blocks.each, some.1))
 
-  whole_some : (c : Command) (calls : List Read) (out : Result Said Stop) → loads c calls out → IsSaid out → (s : Status) × (text : List ℕ) × Whole out s text
-  whole_some c calls (Ok said) h is =
-      let ps = says_pieces said (are_good of_theories of_goals none c calls said h) in (status_of ps.0, joined (map (λ (p : Piece). p.text) ps.0), (ps.0, ps.1, refl, refl))
-  whole_some c calls (Err (stop.Refused line)) h is = (status.Refused, line, (refl, refl))
-  whole_some c calls (Err (stop.Fault file)) h is = absurd is
-  whole_some c calls (Err stop.NoMemory) h is = absurd is
+  says_pieces : (said : Said) → IsGoodSaid said → (ps : List Piece) × Says said ps
+  says_pieces said good = says_by said.plan said.names said.theory said.goals good.theory good.goals good.blocks
 
-  -- a command has an answer over files that are told
-  pub some_answer : SomeTheoryText → SomeScriptText → SomeScheduleText → (files : List ℕ → Option (List ℕ)) (c : Command) → AreTold files c → (s : Status) × (text : List ℕ) × Answers files c s text
-  some_answer theory script schedule files c told =
-      let g = loads_some files theory script schedule c told in
-      let w = whole_some c g.0 g.2 g.3 g.4 in
-      (w.0, w.1, (g.0, g.1, g.2, g.3, w.2))
+  module _ (of_theories : TheoriesLaw) (of_goals : GoalsLaw) (of_trees : ReadTreesAreGood) (none : IsTheory no_laws) where
+    whole_some : (c : Command) (calls : List Read) (out : Result Said Stop) → loads c calls out → IsSaid out → (s : Status) × (text : List ℕ) × Whole out s text
+    whole_some c calls (Ok said) h is =
+        let ps = says_pieces said (are_good of_theories of_goals of_trees none c calls said h) in (status_of ps.0, joined (map (λ (p : Piece). p.text) ps.0), (ps.0, ps.1, refl, refl))
+    whole_some c calls (Err (stop.Refused line)) h is = (status.Refused, line, (refl, refl))
+    whole_some c calls (Err (stop.Fault file)) h is = absurd is
+    whole_some c calls (Err stop.NoMemory) h is = absurd is
+
+    -- a command has an answer over files that are told
+    pub some_answer : SomeTheoryText → SomeScriptText → SomeScheduleText → SomeTreesText → (files : List ℕ → Option (List ℕ)) (c : Command) → AreTold files c → (s : Status) × (text : List ℕ) × Answers files c s text
+    some_answer theory script schedule trees files c told =
+        let g = loads_some files theory script schedule trees c told in
+        let w = whole_some c g.0 g.2 g.3 g.4 in
+        (w.0, w.1, (g.0, g.1, g.2, g.3, w.2))

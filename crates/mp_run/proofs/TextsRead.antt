@@ -37,7 +37,7 @@ module _ {S : Type 0} (R : S → S → Read → Type 0) (c : Command) (names : N
     module _ (n : S) (script : Goals) (known : Names) (second : ScriptMakes n (Ok (script, known))) where
       -- what the task reads gives
       abbrev pub PlanMakes : S → Result (Plan × Names) Stop → Type 0
-      PlanMakes t out = Makes R (plan_part c.task script known) n t out
+      PlanMakes t out = Makes R (plan_part c.task theory script known) n t out
 
       -- all that is said, by the plan
       abbrev rest : Plan × Names → Part Said
@@ -47,10 +47,10 @@ module _ {S : Type 0} (R : S → S → Read → Type 0) (c : Command) (names : N
       after t out h = onward t out (goes_on R (read_as Script c.script (ReadsScript theory met)) (after_script c.task theory) m n t (script, known) out second h)
 
       pub plan_stops : (t : S) (end : Stop) → PlanMakes t (Err end) → Makes R (loads c) s t (Err end)
-      plan_stops t end h = after t (Err end) (stops R (plan_part c.task script known) rest n t end h)
+      plan_stops t end h = after t (Err end) (stops R (plan_part c.task theory script known) rest n t end h)
 
       pub all_read : (t : S) (plan : Plan) (later : Names) → PlanMakes t (Ok (plan, later)) → Makes R (loads c) s t (Ok (record { names = later; theory = theory; goals = script.entries; plan = plan }))
       all_read t plan later h =
           let out : Result Said Stop = Ok (record { names = later; theory = theory; goals = script.entries; plan = plan }) in
           let last : Makes R (rest (plan, later)) t t out = ([], refl, (refl, inl refl)) in
-          after t out (goes_on R (plan_part c.task script known) rest n t t (plan, later) out h last)
+          after t out (goes_on R (plan_part c.task theory script known) rest n t t (plan, later) out h last)

@@ -1,18 +1,21 @@
 -- What a command answers over files whose bytes are told, and what a session writes and counts.
-use Rattle.std.specs.Prelude.{◌≡◌, ℕ, ◌<◌, ◌≤◌, ◌⊎◌, List, [], ◌∷◌, ◌++◌, map, length, Option, Some, None, IsSome, Result, Ok, Err, ⊤}
+use Rattle.std.specs.Prelude.{◌≡◌, ℕ, ◌<◌, ◌≤◌, ◌⊎◌, List, [], ◌∷◌, ◌++◌, map, zip, length, Option, Some, None, IsSome, Result, Ok, Err, ⊤}
 use Rattle.mp_logic.specs.Lists.{joined}
 use Rattle.mp_ports.specs.Calls.{Read}
 use Rattle.mp_ports.specs.Causes.{Rose}
 use Rattle.mp_ports.specs.declared.ports.ReadErr.{ReadErr}
 use Rattle.mp_ports.specs.declared.ports.ReadErr.TheVariants as err
+use Rattle.mp_theory.specs.Tables.{Laws}
+use Rattle.mp_scripttext.specs.declared.script.Entry.{Entry}
 use Rattle.mp_run.specs.declared.piece.Piece.{Piece}
 use Rattle.mp_run.specs.declared.status.Status.{Status}
 use Rattle.mp_run.specs.declared.status.Status.TheVariants as status
 use Rattle.mp_run.specs.declared.stop.Stop.{Stop}
 use Rattle.mp_run.specs.declared.stop.Stop.TheVariants as stop
-use Rattle.mp_run.specs.Commands.{From, Named, Made, Task, Seq, Drill, Command, usage_line}
+use Rattle.mp_run.specs.Commands.{From, Named, Made, Task, Seq, Drill, Replay, Command, usage_line}
 use Rattle.mp_run.specs.Lines.{fault_line}
-use Rattle.mp_run.specs.Loads.{Said, loads}
+use Rattle.mp_run.specs.Loads.{Plan, Searched, Replayed, Said, loads}
+use Rattle.mp_run.specs.Replays.{SomeBadTree}
 use Rattle.mp_run.specs.Sessions.{Says, status_of}
 
 -- the answer to a read is the one of a file with these bytes: they are at most the limit, or it is too long; nothing is said of a
@@ -38,6 +41,7 @@ module _ (files : List ℕ → Option (List ℕ)) where
   abbrev pub TaskIsTold : Task → Type 0
   TaskIsTold Seq = ⊤
   TaskIsTold (Drill schedule) = IsTold schedule
+  TaskIsTold (Replay trees) = IsTold trees
 
   -- the bytes of each text of the command are told
   abbrev pub AreTold : Command → Type 0
@@ -49,6 +53,11 @@ Whole (Ok said) s text = (ps : List Piece) × Says said ps × (s ≡ status_of p
 Whole (Err (stop.Refused line)) s text = (s ≡ status.Refused) × (text ≡ line)
 Whole (Err (stop.Fault file)) s text = (s ≡ status.ReadFault) × (text ≡ fault_line file)
 Whole (Err stop.NoMemory) s text = ⊥
+
+-- what was read is a tree file, and some tree of it doesn't prove its goal
+abbrev pub HasBadTree : Plan → Laws → List Entry → Type 0
+HasBadTree (Searched search) theory goals = ⊥
+HasBadTree (Replayed blocks) theory goals = SomeBadTree theory (zip goals blocks)
 
 -- what a command answers over these files: a status, and a text
 abbrev pub Answers : (List ℕ → Option (List ℕ)) → Command → Status → List ℕ → Type 0

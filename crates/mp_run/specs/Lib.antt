@@ -6,5 +6,6 @@ pub mod Loaded
 pub mod Loads
 pub mod Parts
 pub mod Proofs
+pub mod Replays
 pub mod Runs
 pub mod Sessions

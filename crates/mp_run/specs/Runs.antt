@@ -12,3 +12,4 @@ number_of status.Refused = 3
 number_of status.ReadFault = 4
 number_of status.WriteFault = 5
 number_of status.NoMemory = 6
+number_of status.BadTree = 7

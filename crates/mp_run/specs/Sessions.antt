@@ -1,5 +1,5 @@
 -- A run as its calls: what it reads and what it puts, in order, and how it ends.
-use Rattle.std.specs.Prelude.{◌≡◌, ℕ, ◌⊎◌, List, [], ◌∷◌, map, Bool, true, false, Option, Some, None, Result, Ok, Err, ⊤}
+use Rattle.std.specs.Prelude.{◌≡◌, ℕ, ◌⊎◌, List, [], ◌∷◌, map, zip, length, Option, Some, None, Result, Ok, Err, ⊤}
 use Rattle.mp_ports.specs.Calls.{Read, Put}
 use Rattle.mp_ports.specs.declared.ports.PutFailed.{PutFailed}
 use Rattle.mp_scripttext.specs.declared.script.Entry.{Entry}
@@ -14,16 +14,11 @@ use Rattle.mp_theory.specs.Tables.{Laws}
 use Rattle.mp_run.specs.Commands.{Command, usage_line}
 use Rattle.mp_run.specs.Goals.{IsEvaluated, IsDrilled}
 use Rattle.mp_run.specs.Lines.{fault_line}
-use Rattle.mp_run.specs.Loads.{Plan, Evaluated, Drilled, Said, loads}
+use Rattle.mp_run.specs.Loads.{Search, Evaluated, Drilled, Plan, Searched, Replayed, Said, loads}
 use Rattle.mp_run.specs.Parts.{Names}
+use Rattle.mp_run.specs.Replays.{IsReplayed}
 
 -- ## Pieces
-
--- the piece ends the run
-abbrev pub ends : Verdict → Bool
-ends Closed = false
-ends Open = false
-ends (Ends s) = true
 
 -- after a piece that ends the run there is no other one; else these are the others
 abbrev pub Others : Verdict → (List Piece → Type 0) → List Piece → Type 0
@@ -38,13 +33,7 @@ Pieces Is (x ∷ xs) (p ∷ ps) = Is x p × Others p.verdict (Pieces Is xs) ps
 Pieces Is [] (p ∷ ps) = ⊥
 Pieces Is (x ∷ xs) [] = ⊥
 
--- the status after a piece, by the status before it: something open stays open
-abbrev pub next_status : Verdict → Status → Status
-next_status Closed before = before
-next_status Open before = status.NotAll
-next_status (Ends s) before = s
-
--- the status after a piece and those after it: a piece that ends the run has the last word
+-- the status after a piece and those after it, by the status before it: something open stays open, and a piece that ends the run has the last word
 abbrev pub status_on : Verdict → Status → (Status → Status) → Status
 status_on Closed before later = later before
 status_on Open before later = later status.NotAll
@@ -59,17 +48,23 @@ status_after (p ∷ ps) before = status_on p.verdict before (status_after ps)
 abbrev pub status_of : List Piece → Status
 status_of ps = status_after ps status.AllClosed
 
--- a goal's piece, by what is done with the goals. A further command is a further row:
+-- a goal's piece, by how its tree is searched for. A further command is a further row:
 --   prove: as seq, the outcome one that the strategy gives;   keep: the goal's node after its events, closed
---   replay, expand: the goal's tree with its verdict, a bad one ends the run;   resume: the outcome that the goal's node reaches
-abbrev pub IsPiece : Plan → Names → Laws → Entry → Piece → Type 0
+abbrev pub IsPiece : Search → Names → Laws → Entry → Piece → Type 0
 IsPiece Evaluated names theory entry p = IsEvaluated names theory entry p
 IsPiece (Drilled events) names theory entry p = IsDrilled names theory (events entry.name) entry p
 
--- the pieces that are put, by what the texts say: one for each goal. A command that puts others is a further row, by the plan:
+-- the pieces that are put, by what is done with the goals: one for each goal; or one for each with its block, of which there are as many. A
+-- command that puts others is a further row:
+--   expand: as replay, a valid tree expanded;   resume: for each goal with its node the outcome that it reaches
 --   work: a frame for each job;   load: one line for all goals
+abbrev pub SaysBy : Plan → Names → Laws → List Entry → List Piece → Type 0
+SaysBy (Searched search) names theory goals ps = Pieces (IsPiece search names theory) goals ps
+SaysBy (Replayed blocks) names theory goals ps = (length blocks ≡ length goals) × Pieces (IsReplayed names theory) (zip goals blocks) ps
+
+-- the pieces that are put, by what the texts say
 abbrev pub Says : Said → List Piece → Type 0
-Says said ps = Pieces (IsPiece said.plan said.names said.theory) said.goals ps
+Says said ps = SaysBy said.plan said.names said.theory said.goals ps
 
 -- ## Puts
 

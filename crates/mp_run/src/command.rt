@@ -1,8 +1,8 @@
 ghost use Rattle.std.specs.Prelude.{◌≡◌};
 ghost use Rattle.std.specs.Option.{option_map};
 ghost use Rattle.std.specs.Str.{is_utf8 as is_utf8_of};
-ghost use Rattle.mp_run.specs.Commands.{command_of as command_of_words};
-ghost use Rattle.mp_run.specs.Loaded.{command_seen};
+ghost use Rattle.mp_run.specs.Commands.{command_of as command_of_words, task_of as task_of_words};
+ghost use Rattle.mp_run.specs.Loaded.{command_seen, task_seen};
 
 use mp_logic::Text;
 use std::str;
@@ -14,6 +14,8 @@ pub enum Task<'a> {
     Seq,
     /// The events that the schedule of this name has for each goal are drilled.
     Drill(&'a Text),
+    /// The tree that the file of this name has for each goal is checked.
+    Replay(&'a Text),
 }
 
 /// A command, with the words that name its files.
@@ -40,22 +42,31 @@ pub fn command_of(words: &[Text]) -> Option<Command<'_>>
                 None
             }
         }
-        [word, theory, script, schedule] => {
-            if word.as_slice() == b"drill".as_slice()
-                && is_utf8(theory)
-                && is_utf8(script)
-                && is_utf8(schedule)
-            {
-                Some(Command {
-                    theory,
-                    script,
-                    task: Task::Drill(schedule),
-                })
-            } else {
-                None
+        [word, theory, script, file] => {
+            if !(is_utf8(theory) && is_utf8(script) && is_utf8(file)) {
+                return None;
             }
+            let task = task_of(word, file)?;
+            Some(Command {
+                theory,
+                script,
+                task,
+            })
         }
         _ => None,
+    }
+}
+
+/// The task that the word names, for which a third file is read; None where it names none.
+fn task_of<'a>(word: &Text, file: &'a Text) -> Option<Task<'a>>
+    ensures { option_map task_seen result ≡ task_of_words word.now file.now }
+{
+    if word.as_slice() == b"drill".as_slice() {
+        Some(Task::Drill(file))
+    } else if word.as_slice() == b"replay".as_slice() {
+        Some(Task::Replay(file))
+    } else {
+        None
     }
 }
 

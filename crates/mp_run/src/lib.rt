@@ -2,6 +2,7 @@
 #![tactic(auto)]
 
 mod block;
+mod check;
 mod command;
 mod goals;
 mod laws;
@@ -15,7 +16,7 @@ mod status;
 mod stop;
 mod telling;
 
-pub use laws::{drills_evaluate, one_answer, runs_answer, some_answer};
+pub use laws::{bad_trees_end, drills_evaluate, one_answer, runs_answer, some_answer};
 pub use limits::{LONGEST_FILE, LONGEST_TREES};
 pub use run::run_here;
 pub use status::Status;

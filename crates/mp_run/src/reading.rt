@@ -3,9 +3,11 @@ ghost use Rattle.mp_theory.specs.Tables.{IsTheory, no_laws};
 ghost use Rattle.mp_theorytext.specs.Reading.{ReadsTheory};
 ghost use Rattle.mp_scripttext.specs.Reading.{ReadsScript};
 ghost use Rattle.mp_drill.specs.ScheduleReading.{ReadsSchedule};
+ghost use Rattle.mp_treetext.specs.Reading.{ReadsTrees};
+ghost use Rattle.mp_treetext.specs.Printed.{EachGoodPrinted};
 ghost use Rattle.mp_scripttext.specs.Entries.{EachGood};
 ghost use Rattle.mp_drill.specs.ScheduleValues.{EachInRange};
-ghost use Rattle.mp_run.specs.declared.limits.TheConstants.{LONGEST_FILE};
+ghost use Rattle.mp_run.specs.declared.limits.TheConstants.{LONGEST_FILE, LONGEST_TREES};
 ghost use Rattle.mp_run.specs.Commands.{Named};
 ghost use Rattle.mp_run.specs.Lines.{limit_of as limit_of_kind};
 ghost use Rattle.mp_run.specs.Loaded.{StopsRead, with_names};
@@ -21,6 +23,7 @@ use mp_report::FileKind;
 use mp_scripttext::{Script, read_script};
 use mp_theory::{Theory, theory_laws};
 use mp_theorytext::{read_theories_are_theories, read_theory};
+use mp_treetext::{Printed, read_trees};
 use mp_words::TextFail;
 use std::alloc::Global;
 
@@ -110,5 +113,26 @@ pub fn schedule_of<H: Shelf>(
     match read_schedule(alloc, names, goals, source.as_slice()) {
         Ok(sections) => Ok(sections),
         Err(fail) => Err(stop_of(alloc, FileKind::Schedule, fail)),
+    }
+}
+
+/// The blocks of some goals that a tree file says in a theory, one for each.
+pub fn trees_of<H: Shelf>(
+    alloc: Global,
+    shelf: &mut H,
+    names: &mut Names,
+    theory: &Theory,
+    goals: &Items<Sym>,
+    name: &Text,
+) -> Result<Items<Printed>, Stop>
+    requires room { length names.old + LONGEST_TREES < 2 ^ 32 - 1 }
+    ensures calls { Makes H.reads (read_as FileKind.Trees (Named name.now) (ReadsTrees theory.now goals.now names.old)) shelf.old shelf.new (with_names names.new result) }
+    ensures good { IfOk result (λ blocks. EachGoodPrinted theory.now blocks) }
+    ensures each { IfOk result (λ blocks. length blocks ≡ length goals.now) }
+{
+    let source = read_file(alloc, shelf, name, FileKind::Trees)?;
+    match read_trees(alloc, names, theory, goals, source.as_slice()) {
+        Ok(blocks) => Ok(blocks),
+        Err(fail) => Err(stop_of(alloc, FileKind::Trees, fail)),
     }
 }

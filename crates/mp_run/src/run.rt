@@ -35,10 +35,13 @@ fn run_command<H: Shelf, K: Sink>(
 /// Runs the command that the words give, over these files and into this sink, and answers how it ended.
 ///
 /// The calls of `read` and of `put` that it makes, in order, are those of a session of the command. Each file is read at most
-/// once, in its turn: the theory, the script, and the schedule if one is drilled; the first one that can't be read or is refused
-/// is told by its line, and none is read after it. Else the piece of each goal is put by one call, goal by goal: the text of the
-/// tree or failure that evaluation from left to right gives; or that of a drill, after the replies. A put that fails ends the run.
-/// If the words are no command, nothing is read and the usage line is put. Where memory runs out, the run ends with NoMemory.
+/// once, in its turn: the theory, the script, and the schedule if one is drilled, or the tree file if one is replayed; the
+/// first one that can't be read or is refused is told by its line, and none is read after it. Else the piece of each goal is
+/// put by one call, goal by goal: the text of the tree or failure that evaluation from left to right gives; or that of a
+/// drill, after the replies; or what is said of its block in the tree file: that its tree is valid for the goal by the steps
+/// of the theory, with how many open leaves, that a failure isn't checked, or where and why its tree isn't valid. The first
+/// tree that isn't valid ends the run with BadTree, which nothing else does. A put that fails ends the run. If the words are
+/// no command, nothing is read and the usage line is put. Where memory runs out, the run ends with NoMemory.
 ///
 /// What is known of the bytes and the counts follows by the laws of this crate, whatever the shelf and the sink tell.
 pub fn run_here<H: Shelf, K: Sink>(

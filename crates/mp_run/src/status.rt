@@ -18,10 +18,12 @@ pub enum Status {
     WriteFault,
     /// Want of memory.
     NoMemory,
+    /// The tree that a file has for a goal isn't valid for it.
+    BadTree,
 }
 
 impl Status {
-    /// The exit status of the program, 0 to 6.
+    /// The exit status of the program, 0 to 7.
     pub fn number(self) -> u8
         ensures { result ≡ number_of self }
     {
@@ -33,6 +35,7 @@ impl Status {
             Status::ReadFault => 4,
             Status::WriteFault => 5,
             Status::NoMemory => 6,
+            Status::BadTree => 7,
         }
     }
 }

@@ -1,0 +1,1 @@
+autocmd BufRead,BufNewFile *.theory,*.script setfiletype metatac
