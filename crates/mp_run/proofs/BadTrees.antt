@@ -7,9 +7,7 @@ use Rattle.mp_treetext.specs.declared.printed.Printed.{Printed}
 use Rattle.mp_treetext.specs.declared.printed.Printed.TheVariants as printed
 use Rattle.mp_report.specs.declared.check.Checked.{Checked}
 use Rattle.mp_report.specs.declared.check.Checked.TheVariants as checked
-use Rattle.mp_replay.specs.declared.verdict.Verdict.{Verdict as TreeVerdict}
 use Rattle.mp_replay.specs.declared.verdict.Verdict.TheVariants as tree
-use Rattle.mp_term.specs.declared.sequent.Sequent.{Sequent}
 use Rattle.mp_run.specs.declared.piece.Piece.{Piece}
 use Rattle.mp_run.specs.declared.piece.Verdict.{Verdict}
 use Rattle.mp_run.specs.declared.piece.Verdict.TheVariants.{Closed, Open, Ends}
@@ -19,7 +17,7 @@ use Rattle.mp_run.specs.Answers.{HasBadTree}
 use Rattle.mp_run.specs.Goals.{is_closed_outcome}
 use Rattle.mp_run.specs.Loads.{Search, Evaluated, Drilled, Plan, Searched, Replayed, Said}
 use Rattle.mp_run.specs.Parts.{Names}
-use Rattle.mp_run.specs.Replays.{IsChecked, IsReplayed, IsVerdictLine, IsBadTree, SomeBadTree, checked_of, is_valid, run_verdict}
+use Rattle.mp_run.specs.Replays.{IsChecked, IsReplayed, IsBadTree, SomeBadTree, checked_of, run_verdict}
 use Rattle.mp_run.specs.Sessions.{Others, Pieces, IsPiece, Says, SaysBy, status_on, status_after, status_of}
 
 -- the status isn't BadTree

@@ -9,7 +9,7 @@ use Rattle.mp_strategy.specs.declared.outcome.Outcome.{Outcome}
 use Rattle.mp_strategy.specs.Works.{work_of}
 use Rattle.mp_report.specs.Results.{result_text}
 use Rattle.mp_report.specs.Traces.{trace_text}
-use Rattle.mp_refiner.specs.Law.{StepLaw, IsStepFunction}
+use Rattle.mp_refiner.specs.Law.{StepLaw}
 use Rattle.mp_refiner.specs.Steps.{meaning_of}
 use Rattle.mp_scripttext.specs.declared.script.Entry.{Entry}
 use Rattle.mp_scripttext.specs.Entries.{IsGoodEntry}

@@ -19,7 +19,7 @@ use Rattle.mp_run.specs.declared.stop.Stop.TheVariants as stop
 use Rattle.mp_run.specs.Commands.{From, Named}
 use Rattle.mp_run.specs.Goals.{GoalsInRange}
 use Rattle.mp_run.specs.Loads.{Plan, Searched, Drilled, Replayed, drill_part, goal_names, replay_part}
-use Rattle.mp_run.specs.Parts.{Names, Reading, Part, Makes, and_then, gives, read_as, says, taken_from}
+use Rattle.mp_run.specs.Parts.{Names, Reading, Part, Makes, and_then, gives, read_as}
 use Rattle.mp_run.proofs.Chains.{stops, goes_on}
 
 range_if : (b : Bool) (xs ys : List Event) → IsTrue (are_in_range xs) → IsTrue (are_in_range ys) → IsTrue (are_in_range (if b then xs else ys))
@@ -41,28 +41,22 @@ module _ {S V : Type 0} (R : S → S → Read → Type 0) (s t : S) (kind : File
   next said = gives (plan said.0, said.1)
 
   -- the plan by what the file says
-  abbrev pub third_part : Part (Plan × Names)
+  abbrev third_part : Part (Plan × Names)
   third_part = and_then (read_as kind from reads) next
 
-  pub plan_stopped : (end : Stop) → Makes R (read_as kind from reads) s t (Err end) → Makes R third_part s t (Err end)
+  plan_stopped : (end : Stop) → Makes R (read_as kind from reads) s t (Err end) → Makes R third_part s t (Err end)
   plan_stopped end h = stops R (read_as kind from reads) next s t end h
 
-  pub plan_made : (value : V) (later : Names) → Makes R (read_as kind from reads) s t (Ok (value, later)) → Makes R third_part s t (Ok (plan value, later))
+  plan_made : (value : V) (later : Names) → Makes R (read_as kind from reads) s t (Ok (value, later)) → Makes R third_part s t (Ok (plan value, later))
   plan_made value later h =
       let out : Result (Plan × Names) Stop = Ok (plan value, later) in
       goes_on R (read_as kind from reads) next s t t (value, later) out h ([], refl, (refl, inl refl))
 
   -- memory runs out after it was read
-  pub plan_lacks : (value : V) (later : Names) → Makes R (read_as kind from reads) s t (Ok (value, later)) → Makes R third_part s t (Err stop.NoMemory)
+  plan_lacks : (value : V) (later : Names) → Makes R (read_as kind from reads) s t (Ok (value, later)) → Makes R third_part s t (Err stop.NoMemory)
   plan_lacks value later h =
       let out : Result (Plan × Names) Stop = Err stop.NoMemory in
       goes_on R (read_as kind from reads) next s t t (value, later) out h ([], refl, (refl, inr refl))
-
--- memory runs out before a file is read
-pub nothing_read : {S V W : Type 0} (R : S → S → Read → Type 0) (s : S) (kind : FileKind) (file : List ℕ) (reads : Reading V) (next : V × Names → Part W) → Makes R (and_then (read_as kind (Named file) reads) next) s s (Err stop.NoMemory)
-nothing_read {S} {V} {W} R s kind file reads next =
-    let taken : Makes R (taken_from kind (Named file)) s s (Err stop.NoMemory) = ([], refl, inl (refl, refl)) in
-    stops R (read_as kind (Named file) reads) next s s stop.NoMemory (stops R (taken_from kind (Named file)) (says kind reads) s s stop.NoMemory taken)
 
 -- ## Drills
 

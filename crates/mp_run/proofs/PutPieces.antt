@@ -1,18 +1,17 @@
 -- Pieces that are put, each by one call.
-use Rattle.std.proofs.Common.{◌≡◌, ℕ, List, [], ◌∷◌, map, Result, Ok, Err, refl, ap, sym, subst, ◌∙◌}
+use Rattle.std.proofs.Common.{◌≡◌, List, [], ◌∷◌, map, Result, Ok, Err, refl, ap, sym, subst, ◌∙◌}
 use Rattle.std.specs.List.{AllByRecursion}
 use Rattle.std.specs.Prelude.{IfOk}
 use Rattle.mp_logic.specs.declared.memory.NoMemory.{NoMemory}
 use Rattle.mp_ports.specs.Calls.{Put, Chain}
 use Rattle.mp_ports.specs.declared.ports.PutFailed.{PutFailed}
-use Rattle.mp_run.specs.declared.goals.Next.{Next}
 use Rattle.mp_run.specs.declared.goals.Next.TheVariants as next
 use Rattle.mp_run.specs.declared.piece.Piece.{Piece}
 use Rattle.mp_run.specs.declared.piece.Verdict.{Verdict}
 use Rattle.mp_run.specs.declared.piece.Verdict.TheVariants.{Closed, Open, Ends}
 use Rattle.mp_run.specs.declared.status.Status.{Status}
 use Rattle.mp_run.specs.declared.status.Status.TheVariants as status
-use Rattle.mp_run.specs.Loaded.{PutsMade, PutsPieces, next_after, next_by}
+use Rattle.mp_run.specs.Loaded.{PutsMade, PutsPieces, next_after}
 use Rattle.mp_run.specs.Sessions.{Others, Pieces, status_on, status_after, put_of, Puts}
 
 -- ## Pieces that there are

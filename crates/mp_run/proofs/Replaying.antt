@@ -4,9 +4,9 @@ use Rattle.std.specs.List.{AllByRecursion, list_all}
 use Rattle.std.specs.Prelude.{IfOk}
 use Rattle.mp_logic.specs.declared.memory.NoMemory.{NoMemory}
 use Rattle.mp_logic.specs.declared.tree.Tree.{Tree}
+use Rattle.mp_logic.specs.declared.tree.Tree.TheFolds.{every-Tree}
 use Rattle.mp_logic.specs.declared.tree.Tree.TheOpen as layer
-use Rattle.mp_logic.specs.declared.tree.JustId.{JustId}
-use Rattle.mp_logic.specs.Trees.{goal_at, leaf_count_of, root_of}
+use Rattle.mp_logic.specs.Trees.{goal_at, root_of}
 use Rattle.mp_logic.specs.Valid.{EachGoal, IsValid, StepHolds}
 use Rattle.mp_term.specs.declared.sequent.Sequent.{Sequent}
 use Rattle.mp_theory.specs.declared.just.Just.{Just}
@@ -37,7 +37,7 @@ use Rattle.mp_run.specs.declared.piece.Piece.{Piece}
 use Rattle.mp_run.specs.Goals.{Steps}
 use Rattle.mp_run.specs.Parts.{Names}
 use Rattle.mp_run.specs.Proofs.{Proves, StepIs, IsDerivable}
-use Rattle.mp_run.specs.Replays.{IsLine, IsChecked, IsVerdictLine, checked_of, is_valid, run_verdict}
+use Rattle.mp_run.specs.Replays.{IsLine, IsChecked, checked_of, is_valid, run_verdict}
 use Rattle.mp_run.proofs.GoalPieces.{piece_of, same_piece}
 use Rattle.mp_run.proofs.Proving.{agree, is_step, proves}
 
@@ -45,20 +45,26 @@ parted : {A : Type 0} (P : A → Type 0) (xs ys : List A) → AllByRecursion P (
 parted P [] ys h = (tt, h)
 parted P (x ∷ xs) ys h = let r = parted P xs ys h.1 in ((h.0, r.0), r.1)
 
+-- the goal of the node is good
+abbrev IsGoodNode : Node Sequent → Type 0
+IsGoodNode node = IsTrue (is_good (goal_at node))
+
+module _ (P Q : Node Sequent → Type 0) (turns : (node : Node Sequent) → IsGoodNode node → P node → Q node) where
+  each_turns : (nodes : List (Node Sequent)) → AllByRecursion IsGoodNode nodes → AllByRecursion P nodes → AllByRecursion Q nodes
+  each_turns [] good h = tt
+  each_turns (n ∷ ns) good h = (turns n good.0 h.0, each_turns ns good.1 h.1)
+
+  -- what turns into another fact at each node with a good goal does so in a tree of good goals
+  tree_turns : (t : Tree Sequent) → EachGoal (λ g. IsTrue (is_good g)) t → every-Tree Sequent P t → every-Tree Sequent Q t
+  tree_turns t goods h = of_each_node Q t (each_turns (preorder_of t) (each_node IsGoodNode t goods) (each_node P t h))
+
 -- ## Verdicts by step functions that agree
 
 module _ (theory : Laws) (justs : List Just) (allowed : IsTrue (list_all (is_allowed theory) justs)) (steps others : Steps)
     (same : (by : Just) (g : Sequent) → IsTrue (is_allowed theory by) → IsTrue (is_good g) → steps by g ≡ others by g) where
-  abbrev IsGoodNode : Node Sequent → Type 0
-  IsGoodNode node = IsTrue (is_good (goal_at node))
-
   node_holds : (node : Node Sequent) → IsGoodNode node → StepHolds steps justs node → StepHolds others justs node
   node_holds (layer.Leaf g) good h = tt
   node_holds (layer.Step g just kids) good (by, is, makes) = (by, is, sym (same by g (allowed_at (is_allowed theory) justs just.0 by allowed is) good) ∙ makes)
-
-  nodes_hold : (nodes : List (Node Sequent)) → AllByRecursion IsGoodNode nodes → AllByRecursion (StepHolds steps justs) nodes → AllByRecursion (StepHolds others justs) nodes
-  nodes_hold [] good h = tt
-  nodes_hold (n ∷ ns) good h = (node_holds n good.0 h.0, nodes_hold ns good.1 h.1)
 
   node_bad : (node : Node Sequent) (c : BadCause Sequent) → IsGoodNode node → IsBad steps justs node c → IsBad others justs node c
   node_bad (layer.Leaf g) c good h = h
@@ -77,19 +83,16 @@ module _ (theory : Laws) (justs : List Just) (allowed : IsTrue (list_all (is_all
         after = h.after;
         split = h.split;
         counts = h.counts;
-        sound = nodes_hold h.before parts.0 h.sound;
+        sound = each_turns (StepHolds steps justs) (StepHolds others justs) node_holds h.before parts.0 h.sound;
         bad = node_bad h.node c parts.1.0 h.bad;
       }
 
   module _ (t : Tree Sequent) (goods : EachGoal (λ g. IsTrue (is_good g)) t) (goal : Sequent) where
-    good_nodes : AllByRecursion IsGoodNode (preorder_of t)
-    good_nodes = each_node IsGoodNode t goods
-
     same_valid : IsValid steps justs t goal → IsValid others justs t goal
-    same_valid h = (h.0, of_each_node (StepHolds others justs) t (nodes_hold (preorder_of t) good_nodes (each_node (StepHolds steps justs) t h.1)))
+    same_valid h = (h.0, tree_turns (StepHolds steps justs) (StepHolds others justs) node_holds t goods h.1)
 
     same_fault : (node : ℕ) (c : BadCause Sequent) → IsFirstFault steps justs t node c → IsFirstFault others justs t node c
-    same_fault node c (place, first, e) = (place, first_bad (preorder_of t) place c good_nodes first, e)
+    same_fault node c (place, first, e) = (place, first_bad (preorder_of t) place c (each_node IsGoodNode t goods) first, e)
 
     -- the verdict on a tree of good goals is the same by both
     pub same_verdict : (v : TreeVerdict Sequent) → IsVerdict steps justs t goal v → IsVerdict others justs t goal v
@@ -128,20 +131,12 @@ module _ (law : StepLaw) (names : Names) (theory : Laws) (is_theory : IsTheory t
     valid_proves : IsValid (meaning_of theory).step justs t entry.goal → Proves theory justs t entry.goal
     valid_proves h = proves law theory is_theory justs ok.allowed t entry.goal good h
 
-    step_holds : (node : Node Sequent) → IsTrue (is_good (goal_at node)) → StepIs theory justs node → StepHolds (meaning_of theory).step justs node
-    step_holds (layer.Leaf g) ok h = tt
-    step_holds (layer.Step g just kids) ok (by, is, may, step) = (by, is, (law theory by g (Ok (map root_of kids)) is_theory may ok).1 step)
-
-    steps_hold : (nodes : List (Node Sequent)) → AllByRecursion (λ node. IsTrue (is_good (goal_at node))) nodes → AllByRecursion (StepIs theory justs) nodes → AllByRecursion (StepHolds (meaning_of theory).step justs) nodes
-    steps_hold [] ok h = tt
-    steps_hold (n ∷ ns) ok h = (step_holds n ok.0 h.0, steps_hold ns ok.1 h.1)
+    step_holds : (node : Node Sequent) → IsGoodNode node → StepIs theory justs node → StepHolds (meaning_of theory).step justs node
+    step_holds (layer.Leaf g) here h = tt
+    step_holds (layer.Step g just kids) here (by, is, may, step) = (by, is, (law theory by g (Ok (map root_of kids)) is_theory may here).1 step)
 
     proves_valid : Proves theory justs t entry.goal → IsValid (meaning_of theory).step justs t entry.goal
-    proves_valid h = (
-      h.0,
-      of_each_node (StepHolds (meaning_of theory).step justs) t
-          (steps_hold (preorder_of t) (each_node (λ node. IsTrue (is_good (goal_at node))) t ok.goals) (each_node (StepIs theory justs) t h.1)),
-    )
+    proves_valid h = (h.0, tree_turns (StepIs theory justs) (StepHolds (meaning_of theory).step justs) step_holds t ok.goals h.1)
 
     closed_is_derivable : IsVerdict (meaning_of theory).step justs t entry.goal tree.Closed → IsDerivable theory entry.goal
     closed_is_derivable h = (good, justs, ok.allowed, t, valid_proves h.0, h.1)

@@ -2,7 +2,7 @@ ghost use Rattle.std.specs.Prelude.{◌≡◌, IfOk, IsTrue};
 ghost use Rattle.mp_theory.specs.Allowed.{is_good};
 ghost use Rattle.mp_theory.specs.Tables.{IsTheory};
 ghost use Rattle.mp_treetext.specs.Printed.{IsGoodPrinted, IsGoodProof};
-ghost use Rattle.mp_run.specs.Replays.{IsLine, IsChecked, bad_node_of as bad_node_of_cause};
+ghost use Rattle.mp_run.specs.Replays.{IsChecked, IsLine, IsReplayed, bad_node_of as bad_node_of_cause};
 ghost use Rattle.mp_run.specs.Replays.{checked_of as checked_of_verdict, run_verdict as run_verdict_of};
 
 use crate::piece::{Piece, Verdict};
@@ -101,7 +101,7 @@ pub fn replay_piece(
     requires theory { IsTheory theory.now }
     requires goal { IsTrue (is_good entry.now.goal) }
     requires good { IsGoodPrinted theory.now block.now }
-    ensures { IfOk result (IsChecked names.now theory.now entry.now block.now) }
+    ensures { IfOk result (IsReplayed names.now theory.now (entry.now, block.now)) }
 {
     match block {
         Printed::Proof { tree, justs } => tree_piece(alloc, names, theory, entry, tree, justs),

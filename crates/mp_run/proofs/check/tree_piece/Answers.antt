@@ -1,13 +1,8 @@
-use Rattle.std.proofs.Common.{Ok, Err, List, Result, sym, subst}
-use Rattle.std.specs.Prelude.{IfOk}
-use Rattle.mp_logic.specs.declared.memory.NoMemory.{NoMemory}
+use Rattle.std.proofs.Common.{sym, subst}
 use Rattle.mp_refiner.specs.Steps.{meaning_of}
-use Rattle.mp_report.specs.declared.check.Checked.{Checked}
 use Rattle.mp_replay.specs.Conditions.{CanReplay}
 use Rattle.mp_replay.specs.Verdicts.{IsVerdict}
 use Rattle.mp_theory.specs.Tables.{Laws}
-use Rattle.mp_run.specs.declared.piece.Piece.{Piece}
-use Rattle.mp_run.specs.Replays.{IsLine}
 use Rattle.mp_run.proofs.Replaying.{can_be_replayed, checked_piece}
 use Rattle.mp_run.proofs.check.tree_piece.Goals as goal
 

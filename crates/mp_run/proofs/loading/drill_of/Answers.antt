@@ -1,9 +1,5 @@
 use Rattle.std.proofs.lemmas.Result.{err_from_is_err_and}
-use Rattle.mp_report.specs.declared.refusal.FileKind.TheVariants.{Schedule}
-use Rattle.mp_drill.specs.ScheduleReading.{ReadsSchedule}
-use Rattle.mp_drill.specs.Sections.{events_of}
-use Rattle.mp_run.specs.Loads.{Searched, Drilled, goal_names}
-use Rattle.mp_run.proofs.Plans.{drill_stopped, drill_made, drill_lacks, nothing_read}
+use Rattle.mp_run.proofs.Plans.{drill_stopped, drill_made, drill_lacks}
 use Rattle.mp_run.proofs.loading.drill_of.Goals as goal
 
 pub returns-in_err-sections-clause-calls : goal.returns-in_err-sections-clause-calls
