@@ -1,0 +1,13 @@
+pub mod ArgumentLaws
+pub mod ComposeLaws
+pub mod DelayLaws
+pub mod EqualLaws
+pub mod FitLaws
+pub mod HeadLaws
+pub mod InstanceLaws
+pub mod Laws
+pub mod Layers
+pub mod Measures
+pub mod MoveLaws
+pub mod Renamings
+pub mod TidyLaws
