@@ -72,6 +72,8 @@ def read_cases(path):
     """The cases of a file."""
     texts, base, current, cases, target = {}, Case("", ""), Case("", ""), [], None
     for number, line in enumerate(path.read_text(encoding="utf-8").split("\n"), 1):
+        if line.endswith(" ") or any(ord(c) < 32 or ord(c) == 127 for c in line):
+            sys.exit(f"{path.name}:{number}: a space at the end, or a control character")
         line = line.lstrip(" ")
         if not line or line.startswith("#"):
             continue
